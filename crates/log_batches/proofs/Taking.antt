@@ -11,6 +11,7 @@ use Rattle.batch_store.specs.Accepted.{unfolded}
 use Rattle.batch_store.specs.Batches.{Submission}
 use Rattle.batch_store.specs.Setups.{Setting}
 use Rattle.snap_file.specs.Spelling.{IsBytes}
+use Rattle.snap_file.specs.Origins.{unknown}
 use Rattle.snap_file.specs.Table.{Input, Fault, Contents, Reading, fault_at, contents, end, from_front}
 use Rattle.snap_file.specs.Outcomes.{Turn, Task, KeepsFaults, FaultIn, FirstFaultIn, IsTold, Explains, ReaderState, HasJudged, IsBehindHead, Stops}
 use Rattle.snap_file.specs.Outcomes.Turn.{at_limit, in_field}
@@ -39,10 +40,10 @@ given_all (Err fault ∷ answers) s t calls = absurd calls.1
 -- ---- the two readings: one has no bytes behind the batches, the other any
 
 abbrev pub ends : Head → List Submission → Reading
-ends h list = end (contents h.setup (unfolded list))
+ends h list = end (contents unknown h.setup (unfolded list))
 
 abbrev pub goes : Head → List Submission → Reading
-goes h list = λ input. Ok (contents h.setup (unfolded list))
+goes h list = λ input. Ok (contents unknown h.setup (unfolded list))
 
 abbrev pub task_of : Head → ℕ → (List Submission → Reading) → Task
 task_of h n k = record { max_bytes = n; reads = λ bytes. counted_batches h k (from_front bytes) }
@@ -62,13 +63,13 @@ apart v f e = absurd cc
 steady_goes : (h : Head) (list : List Submission) → IsSteady (goes h list)
 steady_goes h list = record {
   shows = λ before rest kind place e within.
-      absurd (apart (contents h.setup (unfolded list)) (record { kind = kind; place = place }) e);
+      absurd (apart (contents unknown h.setup (unfolded list)) (record { kind = kind; place = place }) e);
 }
 
 pub behind_goes : (h : Head) (list : List Submission) → IsBehindHead (goes h list)
 behind_goes h list = record {
   shows = λ input kind shown e.
-      absurd (apart (contents h.setup (unfolded list)) (record { kind = kind; place = shown }) e);
+      absurd (apart (contents unknown h.setup (unfolded list)) (record { kind = kind; place = shown }) e);
 }
 
 abbrev no_failures : List ℕ → ℕ
@@ -105,7 +106,7 @@ ended c v before (x ∷ left) e =
     absurd (apart v (record { kind = SnapFault.ExtraBytes; place = length before + 1 })
     (sym e ∙ end_more c before x left))
 
-same_list : (s : Setting) (xs ys : List Submission) → contents s (unfolded xs) ≡ contents s (unfolded ys) → xs ≡ ys
+same_list : (s : Setting) (xs ys : List Submission) → contents unknown s (unfolded xs) ≡ contents unknown s (unfolded ys) → xs ≡ ys
 same_list s xs ys e = ap (λ (c : Contents). c.state.list) e
 
 pub list_taken : (h : Head) → IsFor h → (bytes t : List ℕ) (reader : ReaderState) (list : List Submission) →
@@ -113,13 +114,13 @@ pub list_taken : (h : Head) → IsFor h → (bytes t : List ℕ) (reader : Reade
     IsTaken h.setup bytes list reader.taken
 list_taken h for bytes t reader list j =
     let a = j.has_read in
-    let v = contents h.setup (unfolded list) in
+    let v = contents unknown h.setup (unfolded list) in
     let read : counted_batches h (ends h) (record { before = []; rest = a.front }) ≡ Ok v =
     ap (λ (l : List ℕ). counted_batches h (ends h) (record { before = []; rest = l })) (sym (append-nil a.front))
     ∙ a.resumes [] ∙ end_here v a.front in
     let fits = front_bytes a.front reader.pending (subst IsBytes a.bytes_are a.are_bytes) in
     let r = counted_read h for (ends h) v [] a.front fits read in
-    let last = ended (contents h.setup (unfolded r.list)) v r.came.before r.came.left r.came.goes in
+    let last = ended (contents unknown h.setup (unfolded r.list)) v r.came.before r.came.left r.came.goes in
     let same : r.list ≡ list = same_list h.setup r.list list last.1 in
     let front_is : a.front ≡ payload_bytes list =
     r.came.stands.parts ∙ ap (λ (l : List ℕ). payload_bytes r.list ++ l) last.0 ∙ append-nil (payload_bytes r.list)
@@ -193,7 +194,7 @@ none_taken h for bytes t kind no_memory stops list rest some few each whole =
     no_memory stops.explains in
     let f = fault_of_all m (keeps_of (counted_batches h (goes h)) (steady_counted h (goes h) (λ l. steady_goes h l)))
     (bytes_of_calls stops.answers) t bytes kind (given_all stops.answers bytes t stops.calls) refl told in
-    apart (contents h.setup (unfolded list)) (record { kind = kind; place = f.0 })
+    apart (contents unknown h.setup (unfolded list)) (record { kind = kind; place = f.0 })
     (sym (all_read h for (goes h) list rest each some few) ∙ ap m.reads (sym whole) ∙ f.1)
   where
     one_failed : 0 ≡ 0 + 1 → ⊥
@@ -211,11 +212,11 @@ pub one_list : (h : Head) → IsFor h → (list other : List Submission) (rest m
     AllByRecursion (IsLogged h.setup) other → 0 < length other → length other < 2 ^ 64 →
     payload_bytes list ++ rest ≡ payload_bytes other ++ more → (list ≡ other) × (rest ≡ more)
 one_list h for list other rest more each some few each_other some_other few_other e =
-    let both : ◌≡◌ {A = outcome} (Ok (contents h.setup (unfolded list))) (Ok (contents h.setup (unfolded other))) =
+    let both : ◌≡◌ {A = outcome} (Ok (contents unknown h.setup (unfolded list))) (Ok (contents unknown h.setup (unfolded other))) =
     sym (all_read h for (goes h) list rest each some few)
     ∙ ap (λ (l : List ℕ). counted_batches h (goes h) (from_front l)) e
     ∙ all_read h for (goes h) other more each_other some_other few_other in
-    let contents_are : contents h.setup (unfolded list) ≡ contents h.setup (unfolded other) = cc in
+    let contents_are : contents unknown h.setup (unfolded list) ≡ contents unknown h.setup (unfolded other) = cc in
     let same = same_list h.setup list other contents_are in (
       same,
       append_cancel_left (payload_bytes other) rest more

@@ -3,6 +3,7 @@
 use batch_store::BookList;
 use log_head::LogHead;
 use log_join::{JoinFault, join_log};
+use snap_file::Identity;
 use std::alloc::Global;
 use std::process::Abort;
 use std::random::RandomSource;
@@ -105,6 +106,7 @@ fn joined<R: Abort + RandomSource>(
         first,
         total,
         link,
+        identity: Identity::unknown(),
     };
     let [one, two] = case.log;
     let batches = [

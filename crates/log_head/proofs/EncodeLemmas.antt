@@ -9,7 +9,7 @@ use Rattle.crc32c.specs.Remainders.{checksum_of, after_bytes, all_ones}
 use Rattle.crc32c.proofs.Linear.{after_bytes-append}
 use Rattle.batch_store.specs.declared.verdict.Entry.{Entry}
 use Rattle.batch_store.specs.Setups.{Setting}
-use Rattle.snap_file.specs.Spelling.{number_bytes, entry_bytes}
+use Rattle.snap_file.specs.Spelling.{number_bytes, entry_bytes, identity_bytes}
 use Rattle.log_head.specs.declared.head.LogHead.{LogHead}
 use Rattle.log_head.specs.Heads.{mark, version, setup_bytes, field_bytes, fields_end, front_of, head_page}
 use Rattle.log_head.specs.Links.{HasAdded, entries_bytes}
@@ -32,19 +32,20 @@ setup_pushed s f0 f1 f2 f3 f4 f5 f6 f7 rows cols count shards limit most cuts r 
     (pushed f5 f6 f7 _ _ (p6 ∙ ap (λ (x : ℕ). f5 ++ number_bytes w64 x) l)
     (p7 ∙ ap (λ (x : ℕ). f6 ++ number_bytes w64 x) m))))))
 
-pub fields_pushed : (h : LogHead) (f0 f1 f2 f3 f4 f5 f6 : List ℕ) → f0 ≡ [] → f1 ≡ f0 ++ number_bytes w64 mark →
+pub fields_pushed : (h : LogHead) (f0 f1 f2 f3 f4 f5 f6 f7 : List ℕ) → f0 ≡ [] → f1 ≡ f0 ++ number_bytes w64 mark →
     f2 ≡ f1 ++ number_bytes w32 version → f3 ≡ f2 ++ setup_bytes h.setup → f4 ≡ f3 ++ number_bytes w64 h.first →
-    f5 ≡ f4 ++ number_bytes w64 h.total → f6 ≡ f5 ++ number_bytes w32 h.link → f6 ≡ field_bytes h
-fields_pushed h f0 f1 f2 f3 f4 f5 f6 none p1 p2 p3 p4 p5 p6 =
-    pushed f0 f1 f6 _ _ p1 (pushed f1 f2 f6 _ _ p2 (pushed f2 f3 f6 _ _ p3 (pushed f3 f4 f6 _ _ p4
-    (pushed f4 f5 f6 _ _ p5 p6)))) ∙ ap (λ (l : List ℕ). l ++ field_bytes h) none
+    f5 ≡ f4 ++ number_bytes w64 h.total → f6 ≡ f5 ++ number_bytes w32 h.link → f7 ≡ f6 ++ identity_bytes h.identity →
+    f7 ≡ field_bytes version h
+fields_pushed h f0 f1 f2 f3 f4 f5 f6 f7 none p1 p2 p3 p4 p5 p6 p7 =
+    pushed f0 f1 f7 _ _ p1 (pushed f1 f2 f7 _ _ p2 (pushed f2 f3 f7 _ _ p3 (pushed f3 f4 f7 _ _ p4
+    (pushed f4 f5 f7 _ _ p5 (pushed f5 f6 f7 _ _ p6 p7))))) ∙ ap (λ (l : List ℕ). l ++ field_bytes version h) none
 
 abbrev put_on : ℕ → List ℕ → List ℕ
 put_on n front = front ++ drop n (replicate 4096 0)
 
 -- the fields at the front of zeros, and the checksum at their end
-pub page_put : (h : LogHead) (front sum : List ℕ) (n : ℕ) → front ≡ field_bytes h → length front ≡ n →
-    n ≡ fields_end (length h.setup.cuts) → length h.setup.cuts ≤ 7 →
+pub page_put : (h : LogHead) (front sum : List ℕ) (n : ℕ) → front ≡ field_bytes version h → length front ≡ n →
+    n ≡ fields_end version (length h.setup.cuts) → length h.setup.cuts ≤ 7 →
     sum ≡ to_be_bytes w32 (checksum_of (take 4092 (put_on n front))) →
     take 4092 (put_on n front) ++ (sum ++ drop 4 (drop 4092 (put_on n front))) ≡ head_page h
 unfolding number_bytes
@@ -57,19 +58,19 @@ page_put h front sum n is long n_is few sum_is =
     ∙ take-append-add front (drop n (replicate 4096 0)) (4092 - n)
     ∙ ap (λ (l : List ℕ). front ++ take (4092 - n) l) zeros
     ∙ ap (λ (l : List ℕ). front ++ l) (take-replicate (4092 - n) (4096 - n) 0 (omega (arith, n_is, few))) in
-    let front_is : take 4092 whole ≡ front_of h =
+    let front_is : take 4092 whole ≡ front_of version h =
     begun ∙ ap (λ (i : ℕ). front ++ replicate (4092 - i) 0) n_is
-    ∙ ap (λ (l : List ℕ). l ++ replicate (4092 - fields_end (length h.setup.cuts)) 0) is in
+    ∙ ap (λ (l : List ℕ). l ++ replicate (4092 - fields_end version (length h.setup.cuts)) 0) is in
     let left : length (drop n (replicate 4096 0)) ≡ 4096 - n =
     ap (λ (l : List ℕ). length l) zeros ∙ length-replicate (4096 - n) 0 in
     let all : length whole ≤ 4096 =
     omega (arith, length-append front (drop n (replicate 4096 0)), left, long, n_is, few) in
     let none : drop 4 (drop 4092 whole) ≡ [] = drop-drop 4 4092 whole ∙ drop_all 4096 whole all in
     ap (λ (l : List ℕ). l ++ (sum ++ drop 4 (drop 4092 whole))) front_is
-    ∙ ap (λ (l : List ℕ). front_of h ++ (sum ++ l)) none
-    ∙ ap (λ (l : List ℕ). front_of h ++ l) (append-nil sum)
-    ∙ ap (λ (l : List ℕ). front_of h ++ l) sum_is
-    ∙ ap (λ (l : List ℕ). front_of h ++ to_be_bytes w32 (checksum_of l)) front_is
+    ∙ ap (λ (l : List ℕ). front_of version h ++ (sum ++ l)) none
+    ∙ ap (λ (l : List ℕ). front_of version h ++ l) (append-nil sum)
+    ∙ ap (λ (l : List ℕ). front_of version h ++ l) sum_is
+    ∙ ap (λ (l : List ℕ). front_of version h ++ to_be_bytes w32 (checksum_of l)) front_is
 
 pub added_more : (r new : ℕ) (es : List Entry) (e : Entry) → HasAdded r es → new ≡ after_bytes r (entry_bytes e) →
     HasAdded new (es ++ e ∷ [])

@@ -7,9 +7,17 @@ use Rattle.log_blocks.specs.declared.fault.LogKind.TheVariants.{HeadCheck, Damag
 use Rattle.log_head.specs.declared.head.LogHead.{LogHead}
 use Rattle.log_head.specs.Heads.{head_in, filler, HasCheck, IsHead, HasHead, RefusesPage}
 use Rattle.log_head.proofs.ReadAgain.{Says, says}
+use Rattle.std.proofs.Common.{◌^◌, ◌<◌, arith}
+use Rattle.snap_file.specs.Origins.{unknown, IsIdentity}
+use Rattle.snap_file.specs.declared.origin.Identity.{Identity}
+
+-- an identity that isn't known fits its fields
+pub unknown_fits : (i : Identity) → i ≡ unknown.identity → IsIdentity i
+unknown_fits i e = subst IsIdentity (sym e) (record { high = omega arith; low = omega arith; window = omega arith })
 
 says_of : (p : List ℕ) (h : LogHead) → HasHead p h → Says p h
-says_of p h has = subst (λ (l : List ℕ). Says l h) (sym has.spelled) (says h has.is)
+says_of p h has = subst (λ (l : List ℕ). Says l h) (sym has.spelled)
+    (says has.page_version (has.low, has.high) h has.is has.old)
 
 pub one_head : (p : List ℕ) (h g : LogHead) → HasHead p h → HasHead p g → h ≡ g
 one_head p h g a b = sym (says_of p h a).head_is ∙ (says_of p g b).head_is

@@ -3,17 +3,22 @@
 -- is the page of its head.
 use Rattle.std.proofs.Common.{◌≡◌, ℕ, suc, ◌+◌, ◌-◌, ◌*◌, ◌^◌, ◌<◌, ◌≤◌, true, List, [], ◌∷◌, ◌++◌}
 use Rattle.std.proofs.Common.{length, take, drop, replicate, flat_map, refl, sym, ap, subst, ◌∙◌, append_assoc, arith}
-use Rattle.std.specs.Prelude.{slice_index}
+use Rattle.std.specs.Prelude.{slice_index, ◌==◌}
+use Rattle.std.proofs.Common.{Bool, false, cond}
+use Rattle.std.proofs.lemmas.Bool.{eqb-true}
 use Rattle.std.specs.Int.{w8, w32, w64, from_be_bytes}
 use Rattle.std.proofs.lemmas.List.{take-append-drop, length-append, length-take, length-drop, drop-drop, drop_all}
 use Rattle.std.proofs.lemmas.List.{take_at}
 use Rattle.std.proofs.lemmas.List.{append-nil, get_or-drop}
 use Rattle.byte_io.proofs.BufferLemmas.{bytes_behind}
 use Rattle.crc32c.specs.Remainders.{checksum_of}
-use Rattle.snap_file.specs.Spelling.{IsBytes, number_bytes}
+use Rattle.snap_file.specs.Origins.{identity, unknown}
+use Rattle.snap_file.specs.Spelling.{IsBytes, number_bytes, identity_bytes}
+use Rattle.snap_file.specs.declared.origin.Identity.{Identity}
 use Rattle.snap_file.proofs.Fields.{wide32, wide64}
 use Rattle.log_page.specs.Pages.{is_blank}
-use Rattle.log_head.specs.Heads.{mark, version, setup_bytes, field_bytes, fields_end, front_of, head_page, u64_in}
+use Rattle.log_head.specs.Heads.{mark, version, setup_bytes, field_bytes, fields_end, front_of, head_page_in, u64_in}
+use Rattle.log_head.specs.Heads.{named_bytes, named_length, version_in, identity_in, IsKnownVersion}
 use Rattle.log_head.specs.Heads.{u32_in}
 use Rattle.log_head.specs.Heads.{cuts_of, cut_count, behind_cuts, setup_in, head_in, filler, HasCheck, IsHead, HasHead}
 use Rattle.log_head.specs.Heads.{HasFields}
@@ -69,44 +74,75 @@ module _ (p : List ℕ) (bytes : IsBytes p) (len : length p ≡ 4096) (few : cut
       (behind64 1 (30 + 8 * n) (38 + 8 * n) (omega arith) (omega arith) (omega arith))
       (behind64 9 (38 + 8 * n) (46 + 8 * n) (omega arith) (omega arith) (omega arith)))))))
 
-  field_part : u64_in p 0 ≡ mark → u32_in p 8 ≡ version → Stands p 0 (field_bytes (head_in p)) (fields_end n)
-  field_part mark_is version_is =
-      stands_on p 0 8 (fields_end n) _ _ (stands_as p 0 8 w64 _ _ mark_is (number64 0 8 refl (omega arith)))
-      (stands_on p 8 12 (fields_end n) _ _ (stands_as p 8 12 w32 _ _ version_is (number32 8 12 refl (omega arith)))
-      (stands_on p 12 (46 + 8 * n) (fields_end n) _ _ setup_part
-      (stands_on p (46 + 8 * n) (54 + 8 * n) (fields_end n) _ _
-      (behind64 17 (46 + 8 * n) (54 + 8 * n) (omega arith) (omega arith) (omega arith))
-      (stands_on p (54 + 8 * n) (62 + 8 * n) (fields_end n) _ _
-      (behind64 25 (54 + 8 * n) (62 + 8 * n) (omega arith) (omega arith) (omega arith))
-      (behind32 33 (62 + 8 * n) (fields_end n) (omega arith) (omega arith) (omega arith))))))
+  abbrev v : ℕ
+  v = version_in p
 
-  filler_part : is_blank (filler p) ≡ true → Stands p (fields_end n) (replicate (4092 - fields_end n) 0) 4092
+  -- whose the log is
+  named_part : Stands p (66 + 8 * n) (named_bytes v (identity_in p)) (fields_end v n)
+  named_part = either (v == version)
+    where
+      there : Stands p (66 + 8 * n)
+          (identity_bytes (identity (u64_in (behind_cuts p) 37) (u64_in (behind_cuts p) 45) (u64_in (behind_cuts p) 53)))
+          (66 + 8 * n + 24)
+      there =
+          stands_on p (66 + 8 * n) (74 + 8 * n) (66 + 8 * n + 24) _ _
+          (behind64 37 (66 + 8 * n) (74 + 8 * n) (omega arith) (omega arith) (omega arith))
+          (stands_on p (74 + 8 * n) (82 + 8 * n) (66 + 8 * n + 24) _ _
+          (behind64 45 (74 + 8 * n) (82 + 8 * n) (omega arith) (omega arith) (omega arith))
+          (behind64 53 (82 + 8 * n) (66 + 8 * n + 24) (omega arith) (omega arith) (omega arith)))
+
+      either : (test : Bool) → Stands p (66 + 8 * n)
+          (cond test (identity_bytes (cond test (identity (u64_in (behind_cuts p) 37) (u64_in (behind_cuts p) 45)
+          (u64_in (behind_cuts p) 53)) unknown.identity)) []) (66 + 8 * n + cond test 24 0)
+      either true = there
+      either false = record { parts = ap (λ (i : ℕ). drop i p) {x = 66 + 8 * n} {y = 66 + 8 * n + 0} (omega arith) }
+
+  within : fields_end v n ≤ 4092
+  within = either (v == version)
+    where
+      either : (test : Bool) → 66 + 8 * n + cond test 24 0 ≤ 4092
+      either true = omega arith
+      either false = omega arith
+
+  field_part : u64_in p 0 ≡ mark → Stands p 0 (field_bytes v (head_in p)) (fields_end v n)
+  field_part mark_is =
+      stands_on p 0 8 (fields_end v n) _ _ (stands_as p 0 8 w64 _ _ mark_is (number64 0 8 refl (omega arith)))
+      (stands_on p 8 12 (fields_end v n) _ _ (number32 8 12 refl (omega arith))
+      (stands_on p 12 (46 + 8 * n) (fields_end v n) _ _ setup_part
+      (stands_on p (46 + 8 * n) (54 + 8 * n) (fields_end v n) _ _
+      (behind64 17 (46 + 8 * n) (54 + 8 * n) (omega arith) (omega arith) (omega arith))
+      (stands_on p (54 + 8 * n) (62 + 8 * n) (fields_end v n) _ _
+      (behind64 25 (54 + 8 * n) (62 + 8 * n) (omega arith) (omega arith) (omega arith))
+      (stands_on p (62 + 8 * n) (66 + 8 * n) (fields_end v n) _ _
+      (behind32 33 (62 + 8 * n) (66 + 8 * n) (omega arith) (omega arith) (omega arith)) named_part)))))
+
+  filler_part : is_blank (filler p) ≡ true → Stands p (fields_end v n) (replicate (4092 - fields_end v n) 0) 4092
   filler_part blank =
-      let rest = drop (fields_end n) p in
-      let long : length (filler p) ≡ 4092 - fields_end n =
-      omega (arith, length-take (4092 - fields_end n) rest, length-drop (fields_end n) p) in
-      let zeros : filler p ≡ replicate (4092 - fields_end n) 0 =
+      let end = fields_end v n in
+      let rest = drop end p in
+      let low = within in
+      let long : length (filler p) ≡ 4092 - end =
+      omega (arith, length-take (4092 - end) rest, length-drop end p) in
+      let zeros : filler p ≡ replicate (4092 - end) 0 =
       blank_is (filler p) blank ∙ ap (λ (i : ℕ). replicate i 0) long in
       record {
-        parts = sym (take-append-drop (4092 - fields_end n) rest)
-            ∙ ap (λ (l : List ℕ). l ++ drop (4092 - fields_end n) rest) zeros
-            ∙ ap (λ (l : List ℕ). replicate (4092 - fields_end n) 0 ++ l)
-            (drop-drop (4092 - fields_end n) (fields_end n) p
-            ∙ ap (λ (i : ℕ). drop i p) {x = fields_end n + (4092 - fields_end n)} {y = 4092} (omega arith));
+        parts = sym (take-append-drop (4092 - end) rest)
+            ∙ ap (λ (l : List ℕ). l ++ drop (4092 - end) rest) zeros
+            ∙ ap (λ (l : List ℕ). replicate (4092 - end) 0 ++ l)
+            (drop-drop (4092 - end) end p
+            ∙ ap (λ (i : ℕ). drop i p) {x = end + (4092 - end)} {y = 4092} (omega arith));
       }
 
-  front_part : u64_in p 0 ≡ mark → u32_in p 8 ≡ version → is_blank (filler p) ≡ true →
-      Stands p 0 (front_of (head_in p)) 4092
-  front_part mark_is version_is blank =
-      subst (λ (i : ℕ). Stands p 0 (field_bytes (head_in p) ++ replicate (4092 - fields_end i) 0) 4092)
+  front_part : u64_in p 0 ≡ mark → is_blank (filler p) ≡ true → Stands p 0 (front_of v (head_in p)) 4092
+  front_part mark_is blank =
+      subst (λ (i : ℕ). Stands p 0 (field_bytes v (head_in p) ++ replicate (4092 - fields_end v i) 0) 4092)
       (sym (length-cuts_of n (drop 29 p)))
-      (stands_on p 0 (fields_end n) 4092 _ _ (field_part mark_is version_is) (filler_part blank))
+      (stands_on p 0 (fields_end v n) 4092 _ _ (field_part mark_is) (filler_part blank))
 
-  page_is : u64_in p 0 ≡ mark → u32_in p 8 ≡ version → HasCheck p → is_blank (filler p) ≡ true →
-      p ≡ head_page (head_in p)
-  page_is mark_is version_is check blank =
-      let front = front_of (head_in p) in
-      let parts : p ≡ front ++ drop 4092 p = (front_part mark_is version_is blank).parts in
+  page_is : u64_in p 0 ≡ mark → HasCheck p → is_blank (filler p) ≡ true → p ≡ head_page_in v (head_in p)
+  page_is mark_is check blank =
+      let front = front_of v (head_in p) in
+      let parts : p ≡ front ++ drop 4092 p = (front_part mark_is blank).parts in
       let whole : length p ≡ length front + length (drop 4092 p) =
       ap (λ (l : List ℕ). length l) parts ∙ length-append front (drop 4092 p) in
       let long : length front ≡ 4092 = omega (arith, length-drop 4092 p) in
@@ -127,5 +163,15 @@ pub spelled : (p : List ℕ) → IsBytes p → length p ≡ 4096 → HasFields p
     HasHead p (head_in p)
 spelled p bytes len fields check blank = record {
   is = fields.1;
-  spelled = page_is p bytes len (few_cuts p fields.1) fields.0.0 fields.0.1 check blank;
+  page_version = version_in p;
+  low = fields.0.1.0;
+  high = fields.0.1.1;
+  old = old_is (version_in p == version) refl;
+  spelled = page_is p bytes len (few_cuts p fields.1) fields.0.0 check blank;
 }
+  where
+    old_is : (test : Bool) → (version_in p == version) ≡ test → version_in p < version →
+        cond test (identity (u64_in (behind_cuts p) 37) (u64_in (behind_cuts p) 45) (u64_in (behind_cuts p) 53))
+        unknown.identity ≡ unknown.identity
+    old_is true e less = absurd (let same = eqb-true (version_in p) version e in omega arith)
+    old_is false e less = refl

@@ -10,7 +10,9 @@ use Rattle.snap_file.specs.Spelling.{IsBytes}
 use Rattle.log_page.specs.Pages.{is_blank}
 use Rattle.log_head.specs.declared.head.LogHead.{LogHead}
 use Rattle.log_head.specs.Heads.{HasCheck, HasHead, HasVersion, IsHead, behind_cuts, cut_count, cuts_of, filler}
-use Rattle.log_head.specs.Heads.{head_in}
+use Rattle.log_head.specs.Heads.{head_in, identity_in, version, version_in}
+use Rattle.snap_file.specs.Origins.{identity, unknown}
+use Rattle.snap_file.specs.declared.origin.Identity.{Identity}
 use Rattle.log_head.specs.Heads.{setup_in, u32_in, u64_in}
 use Rattle.log_head.proofs.Spelled.{spelled}
 
@@ -35,14 +37,14 @@ module _ (p : List ℕ) (n : ℕ) (rest : List ℕ) (n_is : n ≡ cut_count p) (
       let most_is : most ≡ u64_in (behind_cuts p) 9 = f ∙ ap (λ (l : List ℕ). u64_in l 9) behind_is in
       λ i. setting (a i) (b i) (cuts_are i) (shards_are i) (limit_is i) (most_is i)
 
-  pub head_same : (s : Setting) (first total link : ℕ) → s ≡ setup_in p → first ≡ u64_in rest 17 →
-      total ≡ u64_in rest 25 → link ≡ u32_in rest 33 →
-      ◌≡◌ {A = LogHead} (record { setup = s; first = first; total = total; link = link }) (head_in p)
-  head_same s first total link a b c d =
+  pub head_same : (s : Setting) (first total link : ℕ) (whose : Identity) → s ≡ setup_in p → first ≡ u64_in rest 17 →
+      total ≡ u64_in rest 25 → link ≡ u32_in rest 33 → whose ≡ identity_in p →
+      ◌≡◌ {A = LogHead} (record { setup = s; first = first; total = total; link = link; identity = whose }) (head_in p)
+  head_same s first total link whose a b c d e =
       let first_is : first ≡ u64_in (behind_cuts p) 17 = b ∙ ap (λ (l : List ℕ). u64_in l 17) behind_is in
       let total_is : total ≡ u64_in (behind_cuts p) 25 = c ∙ ap (λ (l : List ℕ). u64_in l 25) behind_is in
       let link_is : link ≡ u32_in (behind_cuts p) 33 = d ∙ ap (λ (l : List ℕ). u32_in l 33) behind_is in
-      λ i. record { setup = a i; first = first_is i; total = total_is i; link = link_is i }
+      λ i. record { setup = a i; first = first_is i; total = total_is i; link = link_is i; identity = e i }
 
 pub setup_refused : (p : List ℕ) (v : Setting) (fault : SetupFault) → v ≡ setup_in p → FirstFails v fault →
     IsSetting (setup_in p) → ⊥

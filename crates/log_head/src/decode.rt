@@ -8,20 +8,28 @@ ghost use Rattle.snap_file.specs.Spelling.{IsBytes};
 ghost use Rattle.log_page.specs.Pages.{is_blank};
 ghost use Rattle.log_head.specs.Heads.{HasCheck, HasFields, HasHead, HasMark, HasVersion, IsHead, RefusesPage};
 ghost use Rattle.log_head.specs.Heads.{cut_count, cuts_of, behind_cuts, filler, head_in, setup_in, u32_in, u64_in};
+ghost use Rattle.log_head.specs.Heads.{version_in, identity_in, fields_end, IsKnownVersion};
+ghost use Rattle.snap_file.specs.Origins.{IsIdentity};
 ghost use Rattle.log_head.specs.declared.head.LogHead.{LogHead};
 ghost use Rattle.log_blocks.specs.declared.fault.LogKind.{LogKind};
 
-use crate::head::{CHECK_AT, LogHead, MARK, VERSION};
+use crate::head::{CHECK_AT, LogHead, MARK, OLD_VERSION, VERSION};
 use batch_store::Setup;
 use crc32c::crc32c;
 use layer_cascade::MAX_CUTS;
 use log_blocks::LogKind;
 use log_page::PAGE;
+use snap_file::Identity;
 
-// Where the number of cuts stands, and how many bytes of fields stand behind the cuts.
+// The offset of the version, that of the number of cuts, how many bytes of fields follow the cuts in the old version, and
+// how many more there are in the version that is written.
+const VERSION_AT: usize = 8;
+
 const COUNT_AT: usize = 28;
 
 const BEHIND_CUTS: usize = 37;
+
+const IDENTITY_BYTES: usize = 24;
 
 /// The bytes from a place on.
 fn behind(bytes: &[u8], at: usize) -> &[u8]
@@ -104,6 +112,24 @@ fn fits_setup(head: &LogHead) -> bool
     head.first <= head.setup.max_batches() && head.total <= head.setup.limit()
 }
 
+// Whose a log is, as its page says it.
+fn identity_of(page: &[u8; PAGE], count: usize) -> Identity
+    requires few { count ≤ 7 }
+    requires count { count ≡ cut_count page.now }
+    ensures value { result ≡ identity_in page.now }
+    ensures fits { IsIdentity result }
+{
+    if u32_at(page, VERSION_AT) != VERSION {
+        return Identity::unknown();
+    }
+    let rest = behind(page, COUNT_AT + 1 + 8 * count);
+    Identity {
+        book_high: u64_at(rest, BEHIND_CUTS),
+        book_low: u64_at(rest, BEHIND_CUTS + 8),
+        window: u64_at(rest, BEHIND_CUTS + 16),
+    }
+}
+
 // The head of this setup that a page says.
 fn head_of(page: &[u8; PAGE], count: usize, setup: Setup) -> LogHead
     requires few { count ≤ 7 }
@@ -112,7 +138,9 @@ fn head_of(page: &[u8; PAGE], count: usize, setup: Setup) -> LogHead
     ensures value { result ≡ head_in page.now }
     ensures setup { result.setup ≡ setup }
     ensures link { result.link < 2 ^ 32 }
+    ensures named { IsIdentity result.identity }
 {
+    let identity = identity_of(page, count);
     let rest = behind(page, COUNT_AT + 1 + 8 * count);
     let first = u64_at(rest, 17);
     let total = u64_at(rest, 25);
@@ -122,6 +150,7 @@ fn head_of(page: &[u8; PAGE], count: usize, setup: Setup) -> LogHead
         first,
         total,
         link,
+        identity,
     }
 }
 
@@ -152,7 +181,8 @@ fn judge_front(page: &[u8; PAGE]) -> Result<(), LogKind>
     if u64_at(page, 0) != MARK {
         return Err(LogKind::BadMark);
     }
-    if u32_at(page, 8) != VERSION {
+    let version = u32_at(page, VERSION_AT);
+    if version < OLD_VERSION || version > VERSION {
         return Err(LogKind::BadVersion);
     }
     Ok(())
@@ -166,12 +196,25 @@ fn has_check(page: &[u8; PAGE]) -> bool
     u32_at(page, CHECK_AT) == crc32c(&page[..CHECK_AT])
 }
 
+// Where the fields of a page end.
+fn end_of_fields(page: &[u8; PAGE]) -> usize
+    requires { cut_count page.now ≤ 7 }
+    ensures { result ≡ fields_end (version_in page.now) (cut_count page.now) }
+{
+    let end = COUNT_AT + 1 + 8 * u8_at(page, COUNT_AT) as usize + BEHIND_CUTS;
+    if u32_at(page, VERSION_AT) == VERSION {
+        end + IDENTITY_BYTES
+    } else {
+        end
+    }
+}
+
 // Whether all bytes between the fields and the checksum are 00.
 fn has_blank_filler(page: &[u8; PAGE]) -> bool
     requires { cut_count page.now ≤ 7 }
     ensures { result ≡ is_blank (filler page.now) }
 {
-    let end = COUNT_AT + 1 + 8 * u8_at(page, COUNT_AT) as usize + BEHIND_CUTS;
+    let end = end_of_fields(page);
     page[end..CHECK_AT].iter().all(|byte| *byte == 0)
 }
 

@@ -1,16 +1,21 @@
 //! The head of a log.
 
 use batch_store::Setup;
+use snap_file::Identity;
 
 /// The first eight bytes of each log: HHM-LOG and LF.
 pub(crate) const MARK: u64 = 0x4848_4d2d_4c4f_470a;
 
-pub(crate) const VERSION: u32 = 1;
+/// The version of logs that don't say whose they are. They are read, and none is written.
+pub(crate) const OLD_VERSION: u32 = 1;
+
+/// The version that is written.
+pub(crate) const VERSION: u32 = 2;
 
 /// Where the checksum of a head page stands, which is of all bytes before it.
 pub(crate) const CHECK_AT: usize = 4092;
 
-/// What a log says of itself: its setup, and what was accepted before its first batch.
+/// What a log says of itself: its setup, what was accepted before its first batch, and whose it is.
 #[derive(Clone, Copy)]
 pub struct LogHead {
     pub setup: Setup,
@@ -20,4 +25,6 @@ pub struct LogHead {
     pub total: u64,
     /// The link of their entries (`link_of`).
     pub link: u32,
+    /// Whose the log is. In a head of the old version that isn't known.
+    pub identity: Identity,
 }

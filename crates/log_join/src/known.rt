@@ -12,6 +12,7 @@ ghost use Rattle.log_join.specs.declared.fault.JoinFault.{JoinFault};
 use crate::fault::JoinFault;
 use batch_store::{Batch, BookList, Entry, Setup};
 use log_head::{Link, LogHead};
+use snap_file::Identity;
 use std::sync::Arc;
 
 /// How many batches a list has.
@@ -87,6 +88,7 @@ pub fn head_of(setup: &Setup, list: &BookList) -> LogHead
         first: count as u64,
         total: front.total,
         link: front.link,
+        identity: Identity::unknown(),
     }
 }
 

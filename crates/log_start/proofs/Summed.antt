@@ -9,6 +9,8 @@ use Rattle.batch_store.specs.Verdicts.{total_of_entries}
 use Rattle.batch_store.proofs.BookLaws.{next_item}
 use Rattle.batch_store.proofs.VerdictLaws.{total_of-append}
 use Rattle.log_head.specs.Heads.{IsHead, head_page}
+use Rattle.log_head.proofs.ReadAgain.{written_head}
+use Rattle.snap_file.specs.Origins.{IsIdentity}
 use Rattle.log_head.specs.Links.{link_in}
 use Rattle.log_head.specs.declared.head.LogHead.{LogHead}
 use Rattle.log_join.specs.Joins.{known_entries}
@@ -58,13 +60,15 @@ whole_summed v front folded list same here has =
 
 module _ (s : Setting) (v : Listing) (front : Front) (h : LogHead) (accepted : AreAccepted s (accepted_in v))
     (has : HasSummed front (known_entries v)) (setup : h.setup ≡ s) (first : h.first ≡ length (known_entries v))
-    (total : h.total ≡ front.total) (link : h.link ≡ link_in (known_entries v)) (fits : h.link < 2 ^ 32) where
+    (total : h.total ≡ front.total) (link : h.link ≡ link_in (known_entries v)) (fits : h.link < 2 ^ 32)
+    (named : IsIdentity h.identity) where
   pub is_head : IsHead h
   is_head = record {
     setup = subst IsSetting (sym setup) accepted.sound;
     first = omega (arith, first, accepted.few, ap (λ (x : Setting). x.max_batches) setup);
     total = omega (arith, total, has.total, accepted.within, ap (λ (x : Setting). x.limit) setup);
     link = fits;
+    named = named;
   }
 
   pub is_log : IsLogOf (begun (head_page h) h.first) (known_entries v)
@@ -72,7 +76,7 @@ module _ (s : Setting) (v : Listing) (front : Front) (h : LogHead) (accepted : A
     head = h;
     before = known_entries v;
     lists = [];
-    has_head = record { is = is_head; spelled = refl };
+    has_head = written_head h is_head;
     first_is = refl;
     before_is = sym first;
     total_is = sym has.total ∙ sym total;

@@ -14,6 +14,7 @@ ghost use Rattle.log_start.specs.Records.{IsLogOf};
 use crate::join::count_of;
 use batch_store::{Batch, BookList, Entry, Setup};
 use log_head::{Link, LogHead};
+use snap_file::Identity;
 use std::sync::Arc;
 
 /// What a head names of the batches before its log, as far as they were added.
@@ -90,5 +91,6 @@ pub fn head_of(setup: &Setup, list: &BookList) -> LogHead
         first: count_of(list),
         total: front.total,
         link: front.link.value(),
+        identity: Identity::unknown(),
     }
 }

@@ -112,12 +112,13 @@ pub fn twice() -> [u8; PAGE] {
     )
 }
 
-/// A head of the setup, from its limit's last bytes on: what stands before the log, and the page's check.
+/// A head of the setup, from its limit's last bytes on: what comes before the log, and the page's checksum. Its book isn't
+/// known, and it has no window.
 fn head_of(behind: [u64; 4], check: u64) -> [u8; PAGE] {
     let mut page = [0; PAGE];
     let fields = [
         0x4848_4d2d_4c4f_470a,
-        0x0000_0001_0000_0000,
+        0x0000_0002_0000_0000,
         0x0000_0003_0000_0000,
         0x0000_0003_0200_0000,
         0x0000_0000_0200_0000,
@@ -126,13 +127,14 @@ fn head_of(behind: [u64; 4], check: u64) -> [u8; PAGE] {
     ];
     put_numbers(&mut page, 0, &fields);
     put_numbers(&mut page, 56, &behind);
+    put_numbers(&mut page, 98, &[u64::MAX]);
     put_numbers(&mut page, PAGE - 8, &[check]);
     page
 }
 
 /// The head of the setup with nothing before it.
 pub fn head() -> [u8; PAGE] {
-    head_of([0x0000_0000_000a_0000, 0, 0, 0], 0xba8a_a704)
+    head_of([0x0000_0000_000a_0000, 0, 0, 0], 0x9ed9_5ae1)
 }
 
 /// The head of the setup behind the batch of client 7.
@@ -144,7 +146,7 @@ pub fn head_behind() -> [u8; PAGE] {
             0x0000_0000_0005_de34,
             0x5a72_0000_0000_0000,
         ],
-        0x5aa3_e14d,
+        0x7ef0_1ca8,
     )
 }
 
@@ -157,6 +159,6 @@ pub fn head_behind_both() -> [u8; PAGE] {
             0x0000_0000_0008_ec64,
             0x96c9_0000_0000_0000,
         ],
-        0x0e03_d23b,
+        0x2a50_2fde,
     )
 }

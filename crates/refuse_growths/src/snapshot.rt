@@ -14,21 +14,24 @@ use test_support::pieces;
 
 /// Three rows, three columns, cuts 2 and 4, 2 shards, a limit of 100 and at most 10 batches; 2 batches, total 12, 1 of
 /// them folded: client 8, number 1, 1 cell, total 7. The base: 1 cell, row 1, column 2, count 7. Then client 7, number
-/// 1, 1 cell: row 0, column 0, count 5. Behind the head, what is folded and the batch stands a checksum each.
-static BYTES: &[u8] = b"HHMSNAP\n\0\0\0\x03\
+/// 1, 1 cell: row 0, column 0, count 5. The book is 00112233445566778899aabbccddeeff, the window 2, and a log goes
+/// with the file. A checksum each follows the head, what is folded, and the batch.
+static BYTES: &[u8] = b"HHMSNAP\n\0\0\0\x04\
 \0\0\0\0\0\0\0\x03\0\0\0\0\0\0\0\x03\
 \x02\0\0\0\0\0\0\0\x02\0\0\0\0\0\0\0\x04\
 \x02\0\0\0\0\0\0\0\x64\0\0\0\0\0\0\0\x0a\
 \0\0\0\0\0\0\0\x01\0\0\0\0\0\0\0\x0c\
-\x6e\x8c\x3f\x3a\
+\0\x11\x22\x33\x44\x55\x66\x77\x88\x99\xaa\xbb\xcc\xdd\xee\xff\
+\0\0\0\0\0\0\0\x02\x01\
+\x56\xeb\xbd\xad\
 \0\0\0\0\0\0\0\x01\
 \0\0\0\0\0\0\0\x08\0\0\0\0\0\0\0\x01\0\0\0\0\0\0\0\x01\0\0\0\0\0\0\0\x07\
 \0\0\0\0\0\0\0\x01\
 \0\0\0\0\0\0\0\x01\0\0\0\0\0\0\0\x02\0\0\0\0\0\0\0\x07\
-\x57\x32\x87\x8c\
+\xb2\x1e\xea\xee\
 \0\0\0\0\0\0\0\x07\0\0\0\0\0\0\0\x01\0\0\0\0\0\0\0\x01\
 \0\0\0\0\0\0\0\0\0\0\0\0\0\0\0\0\0\0\0\0\0\0\0\x05\
-\xf6\xa5\x47\x68";
+\xd8\x97\x2f\x19";
 
 /// The most bytes of a snapshot that is read.
 const MAX_BYTES: u64 = 1_000_000;
@@ -96,7 +99,7 @@ fn written(link: &mut Script, snapshot: &Snapshot) -> Result<(), WriteFault>
 {
     // Any use of it tells what it keeps.
     let list = &snapshot.list;
-    write_snapshot(link, &snapshot.setup, list)
+    write_snapshot(link, snapshot.origin, &snapshot.setup, list)
 }
 
 // Writes a snapshot to a link that keeps it in memory, and where that was refused to another.
@@ -139,7 +142,7 @@ fn show_link(rt: &impl Print, link: &Script) {
 fn saved(rt: &(impl Files + Print), alloc: Global, snapshot: &Snapshot) -> Result<(), SaveFault> {
     // Any use of it tells what it keeps.
     let list = &snapshot.list;
-    save(rt, alloc, PATH, &snapshot.setup, list)
+    save(rt, alloc, PATH, snapshot.origin, &snapshot.setup, list)
 }
 
 fn save_at_last(rt: &(impl Files + Print), alloc: Global, snapshot: &Snapshot) -> Result<(), Stop> {

@@ -12,6 +12,8 @@ use Rattle.hyper_matrix.specs.Counts.{Counts}
 use Rattle.batch_store.specs.Setups.{Setting}
 use Rattle.batch_store.specs.Accepted.{Accepted, total_in}
 use Rattle.batch_store.specs.declared.verdict.Entry.{Entry}
+use Rattle.snap_file.specs.declared.origin.Origin.{Origin}
+use Rattle.snap_file.specs.Spelling.{origin_in}
 use Rattle.snap_file.specs.Spelling.{version, head_bytes, batch_bytes, past_bytes, past_in, check_bytes, checked_bytes}
 use Rattle.snap_file.specs.Spelling.{batches_bytes, file}
 use Rattle.snap_file.proofs.WriteLemmas.{writing_begun}
@@ -91,60 +93,64 @@ batch_last step failures s t all writer bs i h a =
 
 -- ---- the front of a file
 
-pub head_counted : (pending : List ℕ) (s : Setting) (n m t u : ℕ) → pending ≡ head_bytes version s n t → n ≡ m → t ≡ u →
-    pending ≡ head_bytes version s m u
-head_counted pending s n m t u is e f = is ∙ (λ i. head_bytes version s (e i) (f i))
+pub head_counted : (pending : List ℕ) (o : Origin) (s : Setting) (n m t u : ℕ) →
+    pending ≡ head_bytes version s n t ++ origin_in version o → n ≡ m → t ≡ u →
+    pending ≡ head_bytes version s m u ++ origin_in version o
+head_counted pending o s n m t u is e f = is ∙ (λ i. head_bytes version s (e i) (f i) ++ origin_in version o)
 
 past_is : (base : Counts) (folded : List Entry) → past_in version base folded ≡ past_bytes base folded
 unfolding past_in
 past_is base folded = refl
 
-abbrev pub head_of : Setting → Accepted → List ℕ
-head_of s a = head_bytes version s (length a.list) (total_in a)
+abbrev pub head_of : Origin → Setting → Accepted → List ℕ
+head_of o s a = head_bytes version s (length a.list) (total_in a) ++ origin_in version o
 
 -- the head with its checksum, and the past with its
-abbrev pub front_of : Setting → Accepted → List ℕ
-front_of s a = checked_bytes version [] (head_of s a)
+abbrev pub front_of : Origin → Setting → Accepted → List ℕ
+front_of o s a = checked_bytes version [] (head_of o s a)
 
-abbrev pub past_of : Setting → Accepted → List ℕ
-past_of s a = checked_bytes version (front_of s a) (past_bytes a.base a.folded)
+abbrev pub past_of : Origin → Setting → Accepted → List ℕ
+past_of o s a = checked_bytes version (front_of o s a) (past_bytes a.base a.folded)
 
-abbrev pub batches_of : Setting → Accepted → List ℕ
-batches_of s a = batches_bytes version (front_of s a ++ past_of s a) a.list
+abbrev pub batches_of : Origin → Setting → Accepted → List ℕ
+batches_of o s a = batches_bytes version (front_of o s a ++ past_of o s a) a.list
 
-file_is : (s : Setting) (a : Accepted) → file s a ≡ front_of s a ++ (past_of s a ++ batches_of s a)
-file_is s a = ap (λ (l : List ℕ). front_of s a ++ (checked_bytes version (front_of s a) l ++
-    batches_bytes version (front_of s a ++ checked_bytes version (front_of s a) l) a.list)) (past_is a.base a.folded)
+file_is : (o : Origin) (s : Setting) (a : Accepted) →
+    file o s a ≡ front_of o s a ++ (past_of o s a ++ batches_of o s a)
+file_is o s a = ap (λ (l : List ℕ). front_of o s a ++ (checked_bytes version (front_of o s a) l ++
+    batches_bytes version (front_of o s a ++ checked_bytes version (front_of o s a) l) a.list))
+    (past_is a.base a.folded)
 
 -- the whole behind the head
-pub head_left : (s : Setting) (a : Accepted) →
-    file s a ≡ head_of s a ++ (check_bytes version (head_of s a) ++ (past_of s a ++ batches_of s a))
-head_left s a = file_is s a ∙ append_assoc (head_of s a) (check_bytes version (head_of s a))
-    (past_of s a ++ batches_of s a)
+pub head_left : (o : Origin) (s : Setting) (a : Accepted) →
+    file o s a ≡ head_of o s a ++ (check_bytes version (head_of o s a) ++ (past_of o s a ++ batches_of o s a))
+head_left o s a = file_is o s a ∙ append_assoc (head_of o s a) (check_bytes version (head_of o s a))
+    (past_of o s a ++ batches_of o s a)
 
 -- the whole behind the head's checksum
-pub past_left : (s : Setting) (a : Accepted) → file s a ≡ front_of s a ++ (past_of s a ++ batches_of s a)
-past_left s a = file_is s a
+pub past_left : (o : Origin) (s : Setting) (a : Accepted) →
+    file o s a ≡ front_of o s a ++ (past_of o s a ++ batches_of o s a)
+past_left o s a = file_is o s a
 
 -- before the first call the head is pending
-pub head_begun : {S : Type 0} (step : S → List ℕ → Answer → S → Type 0) (failures : S → ℕ) (s : S) (setup : Setting)
-    (a : Accepted) (writer : WriterState) → writer.taken ≡ 0 → writer.pending ≡ head_of setup a →
+pub head_begun : {S : Type 0} (step : S → List ℕ → Answer → S → Type 0) (failures : S → ℕ) (s : S) (o : Origin)
+    (setup : Setting) (a : Accepted) (writer : WriterState) → writer.taken ≡ 0 → writer.pending ≡ head_of o setup a →
     writer.remainder ≡ after_bytes all_ones writer.pending →
-    IsWriting step failures s s (file setup a) writer
-    (check_bytes version (head_of setup a) ++ (past_of setup a ++ batches_of setup a))
-head_begun step failures s setup a writer taken pending summed =
-    let left = check_bytes version (head_of setup a) ++ (past_of setup a ++ batches_of setup a) in
-    subst (λ (l : List ℕ). IsWriting step failures s s l writer left) (sym (head_left setup a))
-    (writing_begun step failures s (head_of setup a) left writer taken pending
+    IsWriting step failures s s (file o setup a) writer
+    (check_bytes version (head_of o setup a) ++ (past_of o setup a ++ batches_of o setup a))
+head_begun step failures s o setup a writer taken pending summed =
+    let left = check_bytes version (head_of o setup a) ++ (past_of o setup a ++ batches_of o setup a) in
+    subst (λ (l : List ℕ). IsWriting step failures s s l writer left) (sym (head_left o setup a))
+    (writing_begun step failures s (head_of o setup a) left writer taken pending
     (summed ∙ ap (after_bytes all_ones) pending))
 
 -- what is folded was appended, and the batches are left
 pub batches_begun : {S : Type 0} (step : S → List ℕ → Answer → S → Type 0) (failures : S → ℕ) (s t : S)
-    (setup : Setting) (a : Accepted) (writer : WriterState) →
-    IsWriting step failures s t (file setup a) writer (batches_of setup a) →
-    IsBeforeBatches step failures s t (file setup a) writer a.list
-batches_begun step failures s t setup a writer h = record {
-  front = front_of setup a ++ past_of setup a;
-  all_is = past_left setup a ∙ sym (append_assoc (front_of setup a) (past_of setup a) (batches_of setup a));
+    (o : Origin) (setup : Setting) (a : Accepted) (writer : WriterState) →
+    IsWriting step failures s t (file o setup a) writer (batches_of o setup a) →
+    IsBeforeBatches step failures s t (file o setup a) writer a.list
+batches_begun step failures s t o setup a writer h = record {
+  front = front_of o setup a ++ past_of o setup a;
+  all_is = past_left o setup a ∙ sym (append_assoc (front_of o setup a) (past_of o setup a) (batches_of o setup a));
   is_writing = h;
 }

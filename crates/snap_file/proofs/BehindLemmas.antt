@@ -1,7 +1,7 @@
 -- What is read behind the head: where its faults show.
 use Rattle.std.proofs.Common.{◌≡◌, ℕ, zero, suc, ◌+◌, ◌<◌, ◌≤◌, Bool, true, false, cond, not, List, [], ◌∷◌, ◌++◌, length, length-append}
 use Rattle.std.proofs.Common.{take, drop, Result, Ok, refl, sym, ◌∙◌, arith, inl, inr}
-use Rattle.std.specs.Prelude.{◌==◌, ◌≢◌, nat_lt}
+use Rattle.std.specs.Prelude.{◌==◌, ◌≢◌, nat_lt, nat_le}
 use Rattle.std.specs.Int.{Width, w32, w64, byte_len, from_be_bytes}
 use Rattle.crc32c.specs.Remainders.{checksum_of}
 use Rattle.std.proofs.lemmas.Bool.{cases_lt, le-ltb}
@@ -9,7 +9,8 @@ use Rattle.std.proofs.lemmas.List.{length-take-le}
 use Rattle.snap_file.specs.Table.{Input, Fault, Contents, Reading, fault_at, number, refuse_if, Tally, cells_behind}
 use Rattle.snap_file.specs.Table.{Progress, entry, entries_behind, base, batch, batches_behind, end, contents_of, ending}
 use Rattle.snap_file.specs.Table.{rest_of, check, check_in}
-use Rattle.snap_file.specs.Spelling.{version}
+use Rattle.snap_file.specs.Spelling.{checked_version}
+use Rattle.snap_file.specs.declared.origin.Origin.{Origin}
 use Rattle.snap_file.specs.Outcomes.{ShowsBehind, IsBehindHead}
 use Rattle.snap_file.specs.declared.head.Head.{Head}
 use Rattle.snap_file.specs.declared.fault.SnapFault.{SnapFault}
@@ -149,7 +150,7 @@ behind_check k b = record {
 
 pub behind_check_in : (v : ℕ) (k : Unit {0} → Reading) → IsBehindHead (k tt) → IsBehindHead (check_in v k)
 unfolding check_in
-behind_check_in v k b = behind_choice (v == version) (check k) (k tt) (behind_check k b) b
+behind_check_in v k b = behind_choice (nat_le checked_version v) (check k) (k tt) (behind_check k b) b
 
 pub behind_cells : (h : Head) (top n : ℕ) (tally : Tally) (k : Tally → Reading) →
     ((t : Tally) → IsBehindHead (k t)) → IsBehindHead (cells_behind h top n tally k)
@@ -210,8 +211,8 @@ behind_sum false left b = record {
       (sym (goes_on (λ _. left) false TotalDiffers input refl) ∙ e);
 }
 
-pub behind_ending : (h : Head) (p : Progress) → IsBehindHead (ending h p)
-behind_ending h p = behind_sum (not (p.counted == h.total)) _ (behind_end (contents_of h p))
+pub behind_ending : (h : Head) (o : Origin) (p : Progress) → IsBehindHead (ending h o p)
+behind_ending h o p = behind_sum (not (p.counted == h.total)) _ (behind_end (contents_of h o p))
 
 -- ---- what is folded
 
@@ -243,5 +244,5 @@ behind_base h p k each =
     behind_field w64 _ (omega arith) (λ entry_count. tested _ BadBatch _ bad_batch
     (from_here _ (behind_cells h p.counted entry_count _ _ (λ t. behind_sum _ _ (each _)))))
 
-pub behind_rest : (h : Head) (p : Progress) → IsBehindHead (rest_of h p)
-behind_rest h p = behind_batches h h.batches p (ending h) (λ q. behind_ending h q)
+pub behind_rest : (h : Head) (o : Origin) (p : Progress) → IsBehindHead (rest_of h o p)
+behind_rest h o p = behind_batches h h.batches p (ending h o) (λ q. behind_ending h o q)

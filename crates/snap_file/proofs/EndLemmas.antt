@@ -25,7 +25,7 @@ end_here c before = refl
 pub reads_whole : {S : Type 0} (gives : S → Result (List ℕ) DeviceFault → S → Type 0) (failures : S → ℕ)
     (ended : Type 0) (m : ℕ) (s t : S) (reader : ReaderState) (c : Contents) →
     HasEnded gives failures ended (snapshot_task m) s t reader (end c) → length reader.pending < 1 →
-    ReadsSnapshot gives failures ended m s t c.setup c.state
+    ReadsSnapshot gives failures ended m s t c.origin c.setup c.state
 reads_whole gives failures ended m s t reader c x short =
     let a = x.has_read in
     let last : List (Result (List ℕ) DeviceFault) = Ok [] ∷ [] in
@@ -46,6 +46,7 @@ reads_whole gives failures ended m s t reader c x short =
       snapshot = record {
         fits = let e = ap length bytes_are ∙ length-append a.front [] in
             omega arith;
+        named = f.named;
         kept = kept_of c.setup c.state f.kept;
         spelled = f.spelled;
       };

@@ -10,6 +10,7 @@ use Rattle.snap_file.specs.Outcomes.{Turn, Task, snapshot_task, FaultIn, FirstFa
 use Rattle.snap_file.specs.Outcomes.Turn.{at_limit, in_field}
 use Rattle.batch_store.specs.Accepted.{Accepted}
 use Rattle.snap_file.specs.declared.fault.SnapFault.{SnapFault}
+use Rattle.snap_file.specs.declared.origin.Origin.{Origin}
 use Rattle.snap_file.specs.declared.fault.SnapFault.TheVariants.{TooLong}
 use Rattle.snap_file.proofs.Kept.{readable_of, kept_of}
 use Rattle.snap_file.proofs.Whole.{file_again}
@@ -18,11 +19,11 @@ use Rattle.snap_file.proofs.Spelled.{file_read, ended}
 abbrev outcome : Type 0
 outcome = Result Contents Fault
 
-pub snapshot_read : (m : ℕ) (bytes : List ℕ) (s : Setting) (a : Accepted) → IsSnapshot m bytes s a →
-    reading_of bytes ≡ Ok (contents s a)
+pub snapshot_read : (m : ℕ) (bytes : List ℕ) (o : Origin) (s : Setting) (a : Accepted) → IsSnapshot m bytes o s a →
+    reading_of bytes ≡ Ok (contents o s a)
 unfolding end
-snapshot_read m bytes s a is = ap reading_of (sym (append-nil bytes)) ∙
-    file_again bytes s a [] (readable_of s a is.kept) is.spelled
+snapshot_read m bytes o s a is = ap reading_of (sym (append-nil bytes)) ∙
+    file_again bytes o s a [] is.named (readable_of s a is.kept) is.spelled
 
 apart : (v : Contents) (f : Fault) → ◌≡◌ {A = outcome} (Ok v) (Err f) → ⊥
 apart v f e = absurd cc
@@ -32,29 +33,33 @@ pub no_fault : (m : ℕ) (bytes : List ℕ) (v : Contents) → reading_of bytes 
 no_fault m bytes v e short at_limit p k f = let h = f.longer in omega arith
 no_fault m bytes v e short in_field p k f = apart v (record { kind = k; place = p }) (sym e ∙ f)
 
-pub never_both : (m : ℕ) (bytes : List ℕ) (s : Setting) (a : Accepted) (p : ℕ) (k : SnapFault) →
-    IsSnapshot m bytes s a → FirstFaultAt m bytes p k → ⊥
-never_both m bytes s a p k is f = no_fault m bytes (contents s a)
-    (snapshot_read m bytes s a is) is.fits f.turn p k f.stands
+pub never_both : (m : ℕ) (bytes : List ℕ) (o : Origin) (s : Setting) (a : Accepted) (p : ℕ) (k : SnapFault) →
+    IsSnapshot m bytes o s a → FirstFaultAt m bytes p k → ⊥
+never_both m bytes o s a p k is f = no_fault m bytes (contents o s a)
+    (snapshot_read m bytes o s a is) is.fits f.turn p k f.stands
 
-pub one_contents : (m : ℕ) (bytes : List ℕ) (s t : Setting) (a b : Accepted) → IsSnapshot m bytes s a →
-    IsSnapshot m bytes t b → (s ≡ t) × (a ≡ b)
-one_contents m bytes s t a b x y =
-    let both : ◌≡◌ {A = outcome} (Ok (contents s a)) (Ok (contents t b)) = sym (snapshot_read m bytes s a x) ∙
-    snapshot_read m bytes t b y in
-    let same : contents s a ≡ contents t b = cc in
-    (ap (λ (c : Contents). c.setup) same, ap (λ (c : Contents). c.state) same)
+pub one_contents : (m : ℕ) (bytes : List ℕ) (o q : Origin) (s t : Setting) (a b : Accepted) →
+    IsSnapshot m bytes o s a → IsSnapshot m bytes q t b → (o ≡ q) × (s ≡ t) × (a ≡ b)
+one_contents m bytes o q s t a b x y =
+    let both : ◌≡◌ {A = outcome} (Ok (contents o s a)) (Ok (contents q t b)) =
+    sym (snapshot_read m bytes o s a x) ∙ snapshot_read m bytes q t b y in
+    let same : contents o s a ≡ contents q t b = cc in (
+      ap (λ (c : Contents). c.origin) same,
+      ap (λ (c : Contents). c.setup) same,
+      ap (λ (c : Contents). c.state) same,
+    )
 
-pub no_prefix : (m n : ℕ) (bytes more : List ℕ) (s t : Setting) (a b : Accepted) → IsSnapshot m bytes s a →
-    IsSnapshot n (bytes ++ more) t b → more ≡ []
-no_prefix m n bytes more s t a b x y =
-    (ended (contents s a) (contents t b) bytes more
-    (sym (file_again bytes s a more (readable_of s a x.kept) x.spelled) ∙ snapshot_read n (bytes ++ more) t b y)).0
+pub no_prefix : (m n : ℕ) (bytes more : List ℕ) (o q : Origin) (s t : Setting) (a b : Accepted) →
+    IsSnapshot m bytes o s a → IsSnapshot n (bytes ++ more) q t b → more ≡ []
+no_prefix m n bytes more o q s t a b x y =
+    (ended (contents o s a) (contents q t b) bytes more
+    (sym (file_again bytes o s a more x.named (readable_of s a x.kept) x.spelled) ∙
+    snapshot_read n (bytes ++ more) q t b y)).0
 
 -- ---- every list of bytes
 
 abbrev pub IsSomeSnapshot : ℕ → List ℕ → Type 0
-IsSomeSnapshot m bytes = (s : Setting) × (a : Accepted) × IsSnapshot m bytes s a
+IsSomeSnapshot m bytes = (o : Origin) × (s : Setting) × (a : Accepted) × IsSnapshot m bytes o s a
 
 abbrev pub HasFirstFault : ℕ → List ℕ → Type 0
 HasFirstFault m bytes = (place : ℕ) × (kind : SnapFault) × FirstFaultAt m bytes place kind
@@ -96,9 +101,10 @@ told : (m : ℕ) (bytes : List ℕ) (r : outcome) → IsBytes bytes → reading_
 told m bytes (Ok v) fits e = elim (cases_lt m (length bytes)) [
   | inl long ↦ inr (m + 1, TooLong, first_at_limit (snapshot_task m) bytes long (λ f h. absurd (apart v f (sym e ∙ h))))
   | inr short ↦ let r = file_read v bytes fits e in inl (
+    v.origin,
     v.setup,
     v.state,
-    record { fits = short; kept = kept_of v.setup v.state r.kept; spelled = r.spelled },
+    record { fits = short; named = r.named; kept = kept_of v.setup v.state r.kept; spelled = r.spelled },
   )
 ]
 told m bytes (Err f) fits e = elim (cases_lt m (length bytes)) [

@@ -17,6 +17,7 @@ pub mod StayLemmas
 pub mod RunLemmas
 pub mod ListLemmas
 pub mod PastLemmas
+pub mod OriginLemmas
 pub mod BehindLemmas
 pub mod BelowLemmas
 pub mod AheadLemmas

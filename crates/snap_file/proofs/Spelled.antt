@@ -2,7 +2,7 @@
 use Rattle.std.proofs.Common.{◌≡◌, ℕ, zero, suc, ◌+◌, ◌-◌, ◌^◌, ◌<◌, ◌≤◌, ◌⊎◌, Bool, true, false, cond, not, List, []}
 use Rattle.std.proofs.Common.{◌∷◌, ◌++◌, length, map, flat_map, Result, Ok, Err, refl, sym, ap, subst, ◌∙◌}
 use Rattle.std.proofs.Common.{append_assoc, arith, inl, inr}
-use Rattle.std.specs.Prelude.{◌==◌, ◌&&◌}
+use Rattle.std.specs.Prelude.{◌==◌, ◌&&◌, nat_le}
 use Rattle.std.specs.List.{AllByRecursion}
 use Rattle.std.specs.Int.{w8, w32, w64}
 use Rattle.std.specs.FinMap.{empty, entries, len, len-entries, len-empty, empty_of_len}
@@ -23,13 +23,16 @@ use Rattle.batch_store.specs.Verdicts.{total_of_entries}
 use Rattle.batch_store.proofs.BookLaws.{entries-with}
 use Rattle.snap_file.proofs.Kept.{IsSetup, CutsFrom, AreNew, IsReadable, total_parts}
 use Rattle.crc32c.specs.Remainders.{checksum_of}
+use Rattle.snap_file.specs.Origins.{identity, origin, no_window, unknown, IsIdentity}
+use Rattle.snap_file.specs.Spelling.{flag, origin_bytes, origin_in, checked_version}
+use Rattle.snap_file.specs.declared.origin.Origin.{Origin}
 use Rattle.snap_file.specs.Spelling.{IsBytes, number_bytes, mark, old_version, version, head_bytes, cells_bytes}
 use Rattle.snap_file.specs.Spelling.{matrix_bytes, batch_bytes, entry_bytes, stands_in, IsBatch, IsEntry}
 use Rattle.snap_file.specs.Spelling.{past_in, check_bytes, checked_bytes, batches_bytes, file_in, IsSpelled}
 use Rattle.snap_file.specs.Table.{Fault, Contents, Reading, head, cuts_behind, Tally, cells_behind, Progress, no_cells}
 use Rattle.snap_file.specs.Table.{with_entry, entry, entries_behind, base, folded_past, past, with_cells, batch}
 use Rattle.snap_file.specs.Table.{batches_behind, end, nothing_yet, contents, reading_of, check, check_in, body, rest_of}
-use Rattle.snap_file.specs.Table.{ending}
+use Rattle.snap_file.specs.Table.{ending, named, origin_by}
 use Rattle.snap_file.specs.declared.head.Head.{Head}
 use Rattle.snap_file.specs.declared.fault.SnapFault.TheVariants.{ExtraBytes}
 use Rattle.snap_file.proofs.Fields.{Stands, field_then, passed, passed_then, within, one_value, same_number, wide8, wide32}
@@ -82,7 +85,7 @@ came_behind k v start rest a mid left x b s c = record {
 check_read : (n : ℕ) (k : Unit {0} → Reading) (v : Contents) (before rest : List ℕ) → IsBytes rest →
     check_in n k (record { before = before; rest = rest }) ≡ Ok v → Came k v before rest tt (check_bytes n before)
 unfolding check_in check check_bytes
-check_read n k v before rest fits e = either (n == version) e
+check_read n k v before rest fits e = either (nat_le checked_version n) e
   where
     there : check k (record { before = before; rest = rest }) ≡ Ok v →
         Came k v before rest tt (number_bytes w32 (checksum_of before))
@@ -243,6 +246,71 @@ head_read k v before rest fits e =
           (came_behind k v f9.before f9.left (number_bytes w64 f10.value) f10.before f10.left h _ f10.stands
           (came_here k v f10.before f10.left h f10.fits t10.1)))))))))));
     })))))))))))))))))))))
+
+-- whose the file is
+pub record OriginRead (n : ℕ) (k : Origin → Reading) (v : Contents) (before rest : List ℕ) : Type 0 where
+  pub o : Origin
+  pub is : IsIdentity o.identity
+  pub old : n < version → o ≡ unknown
+  pub came : Came k v before rest o (origin_in n o)
+
+-- a flag is 0 or 1
+flag_is : (n : ℕ) → n ≤ 1 → flag (n == 1) ≡ n
+flag_is zero h = refl
+flag_is (suc zero) h = refl
+flag_is (suc (suc n)) h = absurd (omega arith)
+
+named_read : (k : Origin → Reading) (v : Contents) (before rest : List ℕ) → IsBytes rest →
+    named k (record { before = before; rest = rest }) ≡ Ok v →
+    (o : Origin) × IsIdentity o.identity × Came k v before rest o (origin_bytes o)
+unfolding named
+named_read k v before rest fits e =
+    field_then w64 (2 ^ 64) wide64 _ v before rest fits e (λ f1.
+    field_then w64 (2 ^ 64) wide64 _ v f1.before f1.left f1.fits f1.goes (λ f2.
+    field_then w64 (2 ^ 64) wide64 _ v f2.before f2.left f2.fits f2.goes (λ f3.
+    field_then w8 (2 ^ 8) wide8 _ v f3.before f3.left f3.fits f3.goes (λ f4.
+    passed_then _ _ _ v _ f4.goes (λ t4.
+    let o = origin (identity f1.value f2.value f3.value) (f4.value == 1) in
+    let flag_same : f4.value ≡ flag (f4.value == 1) = sym (flag_is f4.value ((within 0 1 f4.value t4.0).1)) in (
+      o,
+      record { high = f1.below; low = f2.below; window = f3.below },
+      came_behind k v before rest
+          (number_bytes w64 f1.value ++ (number_bytes w64 f2.value ++ number_bytes w64 f3.value)) f3.before f3.left o _
+          (stands_more before rest (number_bytes w64 f1.value) f1.before f1.left
+          (number_bytes w64 f2.value ++ number_bytes w64 f3.value) f3.before f3.left f1.stands
+          (stands_more f1.before f1.left (number_bytes w64 f2.value) f2.before f2.left (number_bytes w64 f3.value)
+          f3.before f3.left f2.stands f3.stands))
+          (subst (λ (l : List ℕ). Came k v f3.before f3.left o l)
+          (append-nil (number_bytes w8 (flag (f4.value == 1))))
+          (came_behind k v f3.before f3.left (number_bytes w8 (flag (f4.value == 1))) f4.before f4.left o []
+          (subst (λ (n : ℕ). Stands f3.before f3.left (number_bytes w8 n) f4.before f4.left) flag_same f4.stands)
+          (came_here k v f4.before f4.left o f4.fits t4.1))),
+    ))))))
+
+origin_read : (n : ℕ) (k : Origin → Reading) (v : Contents) (before rest : List ℕ) → IsBytes rest → n ≤ version →
+    origin_by n k (record { before = before; rest = rest }) ≡ Ok v → OriginRead n k v before rest
+unfolding origin_by origin_in
+origin_read n k v before rest fits high e = either (n == version) refl e
+  where
+    none : IsIdentity unknown.identity
+    none = record { high = omega arith; low = omega arith; window = omega arith }
+
+    given : (test : Bool) (o : Origin) → (n == version) ≡ test → IsIdentity o.identity → (n < version → o ≡ unknown) →
+        Came k v before rest o (cond test (origin_bytes o) []) → OriginRead n k v before rest
+    given test o t is old came = record {
+      o = o;
+      is = is;
+      old = old;
+      came = subst (λ (b : Bool). Came k v before rest o (cond b (origin_bytes o) [])) (sym t) came;
+    }
+
+    either : (test : Bool) → (n == version) ≡ test →
+        cond test (named k) (k unknown) (record { before = before; rest = rest }) ≡ Ok v → OriginRead n k v before rest
+    either true t h =
+        let r = named_read k v before rest fits h in
+        let same : n ≡ version = same_number n version (ap not t) in
+        given true r.0 t r.1 (λ less. absurd (omega arith)) r.2
+    either false t h = given false unknown t none (λ less. refl) (came_here k v before rest unknown fits h)
 
 pub record CellsRead (k : Tally → Reading) (v : Contents) (before rest : List ℕ) (h : Head) (top n : ℕ)
     (tally : Tally) : Type 0 where
@@ -646,8 +714,9 @@ ended c v before rest e =
     (nothing_left rest h.0, h.1)
 
 pub record FileRead (v : Contents) (bytes : List ℕ) : Type 0 where
+  pub named : IsIdentity v.origin.identity
   pub kept : IsReadable v.setup v.state
-  pub spelled : IsSpelled bytes v.setup v.state
+  pub spelled : IsSpelled bytes v.origin v.setup v.state
 
 -- a version in which nothing is folded has no base and no entry
 nothing_folded : (n : ℕ) (m : Counts) (es : List Entry) (list : List Submission) →
@@ -657,19 +726,27 @@ nothing_folded n m es list none old = let e = none old in (λ i. accepted (e.0 i
 pub file_read : (v : Contents) (bytes : List ℕ) → IsBytes bytes → reading_of bytes ≡ Ok v → FileRead v bytes
 unfolding reading_of
 file_read v bytes fits e =
-    let first = head_read (λ (y : Head). check_in y.version (λ _. body y)) v [] bytes fits e in
+    let first = head_read (λ (y : Head). origin_by y.version (λ z. check_in y.version (λ _. body y z))) v [] bytes
+    fits e in
     let h = first.h in
-    let head_bytes_are = head_bytes h.version h.setup h.batches h.total in
+    let second = origin_read h.version (λ (z : Origin). check_in h.version (λ _. body h z)) v first.came.before
+    first.came.left first.came.fits first.high first.came.goes in
+    let o = second.o in
+    let head_is = head_bytes h.version h.setup h.batches h.total in
+    let head_bytes_are = head_is ++ origin_in h.version o in
     let x = checked_bytes h.version [] head_bytes_are in
-    let first_came = came_checked (λ (y : Head). y.version) body v [] bytes h head_bytes_are first.came in
-    let past_is = past_read h (λ (y : Progress). check_in h.version (λ _. rest_of h y)) v first_came.before
+    let both : Came (λ (z : Origin). check_in h.version (λ _. body h z)) v [] bytes o head_bytes_are =
+    came_behind (λ (z : Origin). check_in h.version (λ _. body h z)) v [] bytes head_is first.came.before
+    first.came.left o (origin_in h.version o) first.came.stands second.came in
+    let first_came = came_checked (λ (_ : Origin). h.version) (body h) v [] bytes o head_bytes_are both in
+    let past_is = past_read h (λ (y : Progress). check_in h.version (λ _. rest_of h o y)) v first_came.before
     first_came.left first_came.fits (either_version h.version) first_came.goes in
     let p = past_is.p in
-    let past_came = came_checked (λ _. h.version) (rest_of h) v first_came.before first_came.left p
+    let past_came = came_checked (λ _. h.version) (rest_of h o) v first_came.before first_came.left p
     (past_in h.version past_is.m past_is.es) past_is.came in
     let y = checked_bytes h.version x (past_in h.version past_is.m past_is.es) in
     let counted = past_is.counted_is in let below = past_is.fits in
-    let all = batches_read h h.batches p (ending h) v past_came.before past_came.left past_came.fits
+    let all = batches_read h h.batches p (ending h o) v past_came.before past_came.left past_came.fits
     (omega arith) past_came.goes in
     let met = passed _ _ _ v _ all.came.goes in
     let last = ended _ v _ _ met.1 in
@@ -677,7 +754,7 @@ file_read v bytes fits e =
     same_number (p.counted + list_total all.list) h.total met.0 in
     let a = accepted past_is.m past_is.es all.list in
     let total_is : h.total ≡ total_in a = let parts = total_parts a in omega arith in
-    let c : Contents = contents h.setup a in
+    let c : Contents = contents o h.setup a in
     let few = first.few in let limit = first.fits in let count = all.count in let folded = past_is.few in
     let kept : IsReadable h.setup a = record {
       setup = first.setup;
@@ -703,27 +780,28 @@ file_read v bytes fits e =
     first_came.stands.parts ∙ ap (λ (l : List ℕ). x ++ l)
     (past_stands.parts ∙ ap (λ (l : List ℕ). y ++ l)
     (all_stands.parts ∙ ap (λ (l : List ℕ). z ++ l) last.0 ∙ append-nil z)) in
-    let counted_as : x ++ (y ++ z) ≡ file_in h.version h.setup a =
-    named h.version h.setup h.batches (length all.list) h.total (total_in a) past_is.m past_is.es all.list
+    let counted_as : x ++ (y ++ z) ≡ file_in h.version o h.setup a =
+    counted_file h.version o h.setup h.batches (length all.list) h.total (total_in a) past_is.m past_is.es all.list
     (sym all.count) total_is in
-    let spelled : IsSpelled bytes h.setup a = record {
+    let spelled : IsSpelled bytes o h.setup a = record {
       file_version = h.version;
       low = first.low;
       high = first.high;
       unfolded_is = nothing_folded h.version past_is.m past_is.es all.list past_is.none_old;
+      origin_is = second.old;
       bytes_are = parts ∙ counted_as;
     } in
-    let same : c ≡ v = ap (λ (x : Accepted). contents h.setup (accepted x.base x.folded (x.list ++ all.list)))
+    let same : c ≡ v = ap (λ (x : Accepted). contents o h.setup (accepted x.base x.folded (x.list ++ all.list)))
     (sym past_is.state_is) ∙ last.1 in
-    subst (λ (x : Contents). FileRead x bytes) same (record { kept = kept; spelled = spelled })
+    subst (λ (x : Contents). FileRead x bytes) same (record { named = second.is; kept = kept; spelled = spelled })
   where
     -- a file by the numbers that its head has
-    file_with : ℕ → Setting → ℕ → ℕ → Counts → List Entry → List Submission → List ℕ
-    file_with n s batches sum m es list =
-        let x = checked_bytes n [] (head_bytes n s batches sum) in
+    file_with : ℕ → Origin → Setting → ℕ → ℕ → Counts → List Entry → List Submission → List ℕ
+    file_with n o s batches sum m es list =
+        let x = checked_bytes n [] (head_bytes n s batches sum ++ origin_in n o) in
         let y = checked_bytes n x (past_in n m es) in
         x ++ (y ++ batches_bytes n (x ++ y) list)
 
-    named : (n : ℕ) (s : Setting) (b c t u : ℕ) (m : Counts) (es : List Entry) (list : List Submission) →
-        b ≡ c → t ≡ u → file_with n s b t m es list ≡ file_with n s c u m es list
-    named n s b c t u m es list e f = (λ i. file_with n s (e i) (f i) m es list)
+    counted_file : (n : ℕ) (o : Origin) (s : Setting) (b c t u : ℕ) (m : Counts) (es : List Entry)
+        (list : List Submission) → b ≡ c → t ≡ u → file_with n o s b t m es list ≡ file_with n o s c u m es list
+    counted_file n o s b c t u m es list e f = (λ i. file_with n o s (e i) (f i) m es list)

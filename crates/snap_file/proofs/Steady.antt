@@ -4,12 +4,14 @@ use Rattle.std.proofs.Common.{length, take, drop, Result, Ok, refl, sym, ap, ◌
 use Rattle.std.proofs.Common.{inl, inr}
 use Rattle.std.proofs.lemmas.Bool.{cases_lt, lt-ltb, le-ltb, ne_eqb}
 use Rattle.std.proofs.lemmas.List.{take-append-drop, length-drop, take_at, drop_at, length-take-le}
-use Rattle.std.specs.Prelude.{◌==◌}
+use Rattle.std.specs.Prelude.{◌==◌, nat_le}
 use Rattle.std.specs.Int.{Width, w32, byte_len, from_be_bytes}
 use Rattle.snap_file.specs.Table.{Input, Fault, Contents, Reading, fault_at, number, refuse_if, head, cuts_behind}
 use Rattle.snap_file.specs.Table.{Tally, cells_behind, Progress, entry, entries_behind, base, folded_past, past, batch}
-use Rattle.snap_file.specs.Table.{batches_behind, end, nothing_yet, whole, reading_of, check, check_in}
-use Rattle.snap_file.specs.Spelling.{old_version, version}
+use Rattle.snap_file.specs.Table.{batches_behind, end, nothing_yet, whole, reading_of, check, check_in, named, origin_by}
+use Rattle.snap_file.specs.Spelling.{old_version, checked_version, version}
+use Rattle.snap_file.specs.Origins.{unknown}
+use Rattle.snap_file.specs.declared.origin.Origin.{Origin}
 use Rattle.crc32c.specs.Remainders.{checksum_of}
 use Rattle.snap_file.specs.declared.head.Head.{Head}
 use Rattle.snap_file.specs.declared.fault.SnapFault.{SnapFault}
@@ -136,7 +138,7 @@ steady_check k s = record {
 
 steady_check_in : (v : ℕ) (k : Unit {0} → Reading) → IsSteady (k tt) → IsSteady (check_in v k)
 unfolding check_in
-steady_check_in v k s = steady_choice (v == version) (check k) (k tt) (steady_check k s) s
+steady_check_in v k s = steady_choice (nat_le checked_version v) (check k) (k tt) (steady_check k s) s
 
 steady_cuts : (n least : ℕ) (done : List ℕ) (k : List ℕ → Reading) → ((l : List ℕ) → IsSteady (k l)) →
     IsSteady (cuts_behind n least done k)
@@ -159,6 +161,16 @@ steady_head k each =
     (steady_number _ _ (λ max_batches. steady_test _ _ _
     (steady_number _ _ (λ batches. steady_test _ _ _
     (steady_number _ _ (λ total. steady_test _ _ _ (each _)))))))))))))))))))))
+
+steady_named : (k : Origin → Reading) → ((o : Origin) → IsSteady (k o)) → IsSteady (named k)
+unfolding named
+steady_named k each =
+    steady_number _ _ (λ high. steady_number _ _ (λ low. steady_number _ _ (λ window.
+    steady_number _ _ (λ flag. steady_test _ _ _ (each _)))))
+
+steady_origin : (v : ℕ) (k : Origin → Reading) → ((o : Origin) → IsSteady (k o)) → IsSteady (origin_by v k)
+unfolding origin_by
+steady_origin v k each = steady_choice (v == version) (named k) (k unknown) (steady_named k each) (each unknown)
 
 pub steady_cells : (h : Head) (top n : ℕ) (tally : Tally) (k : Tally → Reading) → ((t : Tally) → IsSteady (k t)) →
     IsSteady (cells_behind h top n tally k)
@@ -240,9 +252,9 @@ steady_end c = record { shows = shows }
         }
 
 steady_whole : IsSteady whole
-steady_whole = steady_head _ (λ h. steady_check_in h.version _
+steady_whole = steady_head _ (λ h. steady_origin h.version _ (λ o. steady_check_in h.version _
     (steady_past h _ (λ p. steady_check_in h.version _ (steady_batches h h.batches p _
-    (λ q. steady_test _ _ _ (steady_end _))))))
+    (λ q. steady_test _ _ _ (steady_end _)))))))
 
 pub steady : (bytes : List ℕ) (kind : SnapFault) (place : ℕ) → reading_of bytes ≡ fault_at kind place →
     place ≤ length bytes →

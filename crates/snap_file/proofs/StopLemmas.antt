@@ -2,16 +2,16 @@
 use Rattle.std.proofs.Common.{◌≡◌, ℕ, ◌+◌, ◌<◌, ◌≤◌, ◌⊎◌, Bool, true, false, cond, not, List, [], ◌∷◌, ◌++◌, length, take, drop}
 use Rattle.std.proofs.Common.{Result, Ok, Err, refl, sym, ap, subst, ◌∙◌, append_assoc, length-append, arith, inl, inr}
 use Rattle.std.proofs.lemmas.List.{append-nil, length-take-le, take-append-drop}
-use Rattle.std.proofs.lemmas.Bool.{cases_lt, eq-eqb, ne_eqb}
+use Rattle.std.proofs.lemmas.Bool.{cases_lt, le-leb, lt-leb}
 use Rattle.std.specs.Int.{Width, w32, byte_len, from_be_bytes}
-use Rattle.std.specs.Prelude.{◌==◌}
+use Rattle.std.specs.Prelude.{◌==◌, nat_le}
 use Rattle.crc32c.specs.Remainders.{all_ones, after_bytes, complement, checksum_of}
 use Rattle.crc32c.proofs.Linear.{after_bytes-append}
 use Rattle.byte_io.specs.Streams.{Answer, bytes_of_calls}
 use Rattle.byte_io.specs.declared.fault.DeviceFault.{DeviceFault}
 use Rattle.byte_io.proofs.StreamLemmas.{calls-append, calls_one, bytes_of_calls-append}
 use Rattle.snap_file.specs.Table.{Input, Fault, Reading, fault_at, number, refuse_if, check, check_in, Contents}
-use Rattle.snap_file.specs.Spelling.{version}
+use Rattle.snap_file.specs.Spelling.{checked_version}
 use Rattle.snap_file.specs.Outcomes.{Turn, Task, KeepsFaults, FaultIn, IsTold, IsOfBytes, ShowsBehind, ReachesLast, Explains, ReaderState}
 use Rattle.snap_file.specs.Outcomes.{HasRead, HasJudged, HasAsked, IsBehindHead, HasEnded, HasFailed, Stops}
 use Rattle.snap_file.specs.Outcomes.Turn.{at_limit, in_field}
@@ -350,20 +350,20 @@ read_check gives failures m s t reader sum k is h =
       reaches = h.reaches;
     }
 
-chosen_check : (v : ℕ) (k : Unit {0} → Reading) (test : Bool) → (v == version) ≡ test →
+chosen_check : (v : ℕ) (k : Unit {0} → Reading) (test : Bool) → nat_le checked_version v ≡ test →
     check_in v k ≡ cond test (check k) (k tt)
 unfolding check_in
 chosen_check v k test e = ap (λ (b : Bool). cond b (check k) (k tt)) e
 
 -- a file of this version has a checksum here, or none
 pub check_due : {S : Type 0} (gives : S → Result (List ℕ) DeviceFault → S → Type 0) (failures : S → ℕ) (m : Task)
-    (s t : S) (reader : ReaderState) (v : ℕ) (k : Unit {0} → Reading) → v ≡ version →
+    (s t : S) (reader : ReaderState) (v : ℕ) (k : Unit {0} → Reading) → checked_version ≤ v →
     HasJudged gives failures m s t reader (check_in v k) → HasJudged gives failures m s t reader (check k)
 check_due gives failures m s t reader v k e h =
-    subst (λ (r : Reading). HasJudged gives failures m s t reader r) (chosen_check v k true (eq-eqb v version e)) h
+    subst (λ (r : Reading). HasJudged gives failures m s t reader r) (chosen_check v k true (le-leb checked_version v e)) h
 
 pub check_none : {S : Type 0} (gives : S → Result (List ℕ) DeviceFault → S → Type 0) (failures : S → ℕ) (m : Task)
-    (s t : S) (reader : ReaderState) (v : ℕ) (k : Unit {0} → Reading) → (v ≡ version → ⊥) →
+    (s t : S) (reader : ReaderState) (v : ℕ) (k : Unit {0} → Reading) → v < checked_version →
     HasJudged gives failures m s t reader (check_in v k) → HasJudged gives failures m s t reader (k tt)
 check_none gives failures m s t reader v k n h =
-    subst (λ (r : Reading). HasJudged gives failures m s t reader r) (chosen_check v k false (ne_eqb v version n)) h
+    subst (λ (r : Reading). HasJudged gives failures m s t reader r) (chosen_check v k false (lt-leb checked_version v n)) h

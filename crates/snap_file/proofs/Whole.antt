@@ -1,13 +1,13 @@
 -- A whole file that was spelled is read again.
 use Rattle.std.proofs.Common.{◌≡◌, ℕ, suc, ◌+◌, ◌-◌, ◌^◌, ◌<◌, ◌≤◌, Bool, true, false, cond, not, eqb, List, [], ◌∷◌}
 use Rattle.std.proofs.Common.{◌++◌, length, flat_map, refl, sym, ap, subst, ◌∙◌, append_assoc, arith, inl, inr}
-use Rattle.std.specs.Prelude.{◌==◌, ◌&&◌, nat_lt}
+use Rattle.std.specs.Prelude.{◌==◌, ◌&&◌, nat_lt, nat_le}
 use Rattle.std.specs.List.{AllByRecursion}
-use Rattle.std.specs.Int.{w32, w64}
+use Rattle.std.specs.Int.{w8, w32, w64}
 use Rattle.crc32c.specs.Remainders.{all_ones, after_bytes, complement, checksum_of}
 use Rattle.std.specs.FinMap.{empty, entries, len, len-entries, len-empty, entries_sorted}
 use Rattle.std.proofs.lemmas.List.{append-nil}
-use Rattle.std.proofs.lemmas.Bool.{cases_order, eq-eqb, ne_eqb, le-ltb}
+use Rattle.std.proofs.lemmas.Bool.{cases_order, eq-eqb, eqb-false, ne_eqb, le-ltb}
 use Rattle.hyper_matrix.specs.Counts.{Counts, place_cmp, count_sum, total, built}
 use Rattle.hyper_matrix.specs.Matrix.{Matrix, matrix}
 use Rattle.hyper_matrix.specs.Cells.{built_of}
@@ -20,17 +20,20 @@ use Rattle.batch_store.specs.declared.verdict.Entry.{Entry}
 use Rattle.batch_store.proofs.BookLaws.{entries-with}
 use Rattle.hyper_matrix.specs.Shared.{LiesWithin}
 use Rattle.snap_file.proofs.Kept.{AreNew, IsReadable, total_parts}
+use Rattle.snap_file.specs.Origins.{identity, origin, unknown, IsIdentity}
+use Rattle.snap_file.specs.Spelling.{flag, origin_bytes, origin_in, checked_version}
+use Rattle.snap_file.specs.declared.origin.Origin.{Origin}
 use Rattle.snap_file.specs.Spelling.{old_version, version, head_bytes, cells_bytes, matrix_bytes, batch_bytes, entry_bytes}
 use Rattle.snap_file.specs.Spelling.{past_bytes, number_bytes, past_in, check_bytes, checked_bytes, batches_bytes, file_in}
 use Rattle.snap_file.specs.Spelling.{stands_in, IsBatch, IsEntry, IsSpelled}
 use Rattle.snap_file.specs.Table.{Input, Reading, give, refuse_if, outside, head, cells_behind, Progress, no_cells}
 use Rattle.snap_file.specs.Table.{with_entry, entry, entries_behind, with_base, base, folded_past, past, with_cells}
 use Rattle.snap_file.specs.Table.{batch, batches_behind, end, body, nothing_yet, contents, contents_of, ending, rest_of}
-use Rattle.snap_file.specs.Table.{reading_of, Part, check, check_in}
+use Rattle.snap_file.specs.Table.{reading_of, Part, check, check_in, named, origin_by}
 use Rattle.snap_file.specs.declared.head.Head.{Head}
 use Rattle.snap_file.specs.declared.fault.SnapFault.TheVariants.{BadHead, BadBatch, RepeatedNumber, TotalDiffers}
 use Rattle.snap_file.specs.declared.fault.SnapFault.TheVariants.{BadCheck}
-use Rattle.snap_file.proofs.Fields.{Skips, skips_give, skips_bind, skips_test, skips_field, skips_number, wide32, wide64, inside}
+use Rattle.snap_file.proofs.Fields.{Skips, skips_give, skips_bind, skips_test, skips_field, skips_number, wide8, wide32, wide64, inside}
 use Rattle.snap_file.proofs.Again.{tally_after, cells_after, counted_after, skips_cells, skips_head, head_of}
 use Rattle.snap_file.proofs.Order.{built-entries, entries_again, rise_all}
 
@@ -328,7 +331,7 @@ check_again : (v : ℕ) (k : Unit {0} → Reading) (before more : List ℕ) →
     check_in v k (record { before = before; rest = check_bytes v before ++ more }) ≡
     k tt (record { before = before ++ check_bytes v before; rest = more })
 unfolding check_in check check_bytes
-check_again v k before more = either (v == version)
+check_again v k before more = either (nat_le checked_version v)
   where
     there : check k (record { before = before; rest = number_bytes w32 (checksum_of before) ++ more }) ≡
         k tt (record { before = before ++ number_bytes w32 (checksum_of before); rest = more })
@@ -362,6 +365,68 @@ checked_again p x bytes v k before more s =
     ∙ check_again (v x) (λ _. k x) (before ++ bytes) more
     ∙ ap (λ (l : List ℕ). k x (record { before = l; rest = more })) (append_assoc before bytes sum)
 
+-- ---- whose the file is
+
+flag_again : (b : Bool) → (flag b == 1) ≡ b
+flag_again true = refl
+flag_again false = refl
+
+flag_below : (b : Bool) → flag b < 2 ^ 8
+flag_below true = omega arith
+flag_below false = omega arith
+
+flag_inside : (b : Bool) → outside 0 1 (flag b) ≡ false
+flag_inside true = refl
+flag_inside false = refl
+
+skips_named : (o : Origin) → IsIdentity o.identity → Skips named o (origin_bytes o)
+unfolding named
+skips_named o is =
+    let i = o.identity in
+    let n = flag o.has_log in
+    let y = origin i (n == 1) in
+    let parts : Skips named y (number_bytes w64 i.book_high ++ (number_bytes w64 i.book_low ++
+    (number_bytes w64 i.window ++ (number_bytes w8 n ++ [])))) =
+    skips_number w64 (2 ^ 64) wide64 i.book_high _ y _ is.high
+    (skips_number w64 (2 ^ 64) wide64 i.book_low _ y _ is.low
+    (skips_number w64 (2 ^ 64) wide64 i.window _ y _ is.window
+    (skips_number w8 (2 ^ 8) wide8 n _ y _ (flag_below o.has_log)
+    (skips_test (outside 0 1 n) BadHead _ y _ (flag_inside o.has_log) (skips_give y))))) in
+    let bytes_are : number_bytes w64 i.book_high ++ (number_bytes w64 i.book_low ++
+    (number_bytes w64 i.window ++ (number_bytes w8 n ++ []))) ≡ origin_bytes o =
+    ap (λ (l : List ℕ). number_bytes w64 i.book_high ++ (number_bytes w64 i.book_low ++
+    (number_bytes w64 i.window ++ l))) (append-nil (number_bytes w8 n))
+    ∙ ap (λ (l : List ℕ). number_bytes w64 i.book_high ++ l)
+    (sym (append_assoc (number_bytes w64 i.book_low) (number_bytes w64 i.window) (number_bytes w8 n)))
+    ∙ sym (append_assoc (number_bytes w64 i.book_high) (number_bytes w64 i.book_low ++ number_bytes w64 i.window)
+    (number_bytes w8 n)) in
+    subst (λ (l : List ℕ). Skips named o l) bytes_are
+    (subst (λ (x : Origin). Skips named x (number_bytes w64 i.book_high ++ (number_bytes w64 i.book_low ++
+    (number_bytes w64 i.window ++ (number_bytes w8 n ++ [])))))
+    (ap (origin i) (flag_again o.has_log)) parts)
+
+-- in any version
+origin_again : (v : ℕ) (o : Origin) → IsIdentity o.identity → v ≤ version → (v < version → o ≡ unknown) →
+    Skips (origin_by v) o (origin_in v o)
+unfolding origin_by origin_in
+origin_again v o is high old = either (v == version) refl
+  where
+    either : (test : Bool) → (v == version) ≡ test →
+        Skips (λ (k : Origin → Reading). cond test (named k) (k unknown)) o (cond test (origin_bytes o) [])
+    either true e = skips_named o is
+    either false e = subst (λ (x : Origin). Skips (give unknown) x []) (sym (old (omega (arith, eqb-false v version e))))
+        (skips_give unknown)
+
+-- the head, and whose the file is
+abbrev front : Part (Head × Origin)
+front k = head (λ h. origin_by h.version (λ o. k (h, o)))
+
+skips_front : (h : Head) (o : Origin) (a b : List ℕ) → Skips head h a → Skips (origin_by h.version) o b →
+    Skips front (h, o) (a ++ b)
+skips_front h o a b first second =
+    skips_bind head (λ (g : Head). λ (k : Head × Origin → Reading). origin_by g.version (λ x. k (g, x))) h (h, o) a b
+    first (record { reads = λ k before more. second.reads (λ x. k (h, x)) before more })
+
 -- ---- the whole file
 
 batches_again : (h : Head) (list : List Submission) (p : Progress) (k : Progress → Reading) (before more : List ℕ) →
@@ -393,11 +458,11 @@ batches_again h (b ∷ list) p k before more rows cols most each new fits =
     ∙ ap (λ (x : Progress). k x (record { before = before ++ (part ++ behind); rest = more })) (progress_more p b list)
 
 -- the batches and the end, behind what is folded
-rest_again : (v : ℕ) (s : Setting) (a : Accepted) (p : Progress) (before more : List ℕ) → IsReadable s a →
+rest_again : (v : ℕ) (o : Origin) (s : Setting) (a : Accepted) (p : Progress) (before more : List ℕ) → IsReadable s a →
     p.state ≡ accepted a.base a.folded [] → p.counted ≡ total_of_entries a.folded →
-    rest_of (head_in v s a) p (record { before = before; rest = batches_bytes v before a.list ++ more }) ≡
-    end (contents s a) (record { before = before ++ batches_bytes v before a.list; rest = more })
-rest_again v s a p before more kept state counted =
+    rest_of (head_in v s a) o p (record { before = before; rest = batches_bytes v before a.list ++ more }) ≡
+    end (contents o s a) (record { before = before ++ batches_bytes v before a.list; rest = more })
+rest_again v o s a p before more kept state counted =
     let h = head_in v s a in
     let c = batches_bytes v before a.list in
     let limit = kept.setup.limit.1 in let fits = kept.fits in let total_is = total_parts a in
@@ -405,41 +470,44 @@ rest_again v s a p before more kept state counted =
     subst (λ (l : List Entry). AreNew l (entries_of a.list)) (sym (ap entries_in state ∙ append-nil a.folded))
     kept.behind in
     let last = progress_after p a.list in
-    batches_again h a.list p (ending h) before more kept.setup.rows.1 kept.setup.cols.1 (omega arith) kept.each new
+    batches_again h a.list p (ending h o) before more kept.setup.rows.1 kept.setup.cols.1 (omega arith) kept.each new
     (omega arith)
-    ∙ total_met last.counted h.total TotalDiffers (λ (_ : Unit {0}). end (contents_of h last))
+    ∙ total_met last.counted h.total TotalDiffers (λ (_ : Unit {0}). end (contents_of h o last))
     (record { before = before ++ c; rest = more }) (omega arith)
-    ∙ ap (λ (x : Accepted). end (contents s (accepted x.base x.folded (x.list ++ a.list)))
+    ∙ ap (λ (x : Accepted). end (contents o s (accepted x.base x.folded (x.list ++ a.list)))
     (record { before = before ++ c; rest = more })) state
 
-file_in_again : (v : ℕ) (s : Setting) (a : Accepted) (more : List ℕ) → IsReadable s a → old_version ≤ v →
-    v ≤ version → (v ≡ old_version → a ≡ unfolded a.list) →
-    reading_of (file_in v s a ++ more) ≡ end (contents s a) (record { before = file_in v s a; rest = more })
+file_in_again : (v : ℕ) (o : Origin) (s : Setting) (a : Accepted) (more : List ℕ) → IsIdentity o.identity →
+    IsReadable s a → old_version ≤ v → v ≤ version → (v ≡ old_version → a ≡ unfolded a.list) →
+    (v < version → o ≡ unknown) →
+    reading_of (file_in v o s a ++ more) ≡ end (contents o s a) (record { before = file_in v o s a; rest = more })
 unfolding reading_of
-file_in_again v s a more kept low high none =
+file_in_again v o s a more is kept low high none old =
     let n = length a.list in let t = total_in a in
     let h = head_in v s a in
-    let front = head_bytes v s n t in
+    let first_bytes = head_bytes v s n t ++ origin_in v o in
     let past_is = past_again v s a kept none in
     let folded = past_in v a.base a.folded in
-    let x = checked_bytes v [] front in
+    let x = checked_bytes v [] first_bytes in
     let y = checked_bytes v x folded in
     let z = batches_bytes v (x ++ y) a.list in
     let few = kept.few in let fits = kept.fits in let total_is = total_parts a in
-    let first = skips_head v s n t low high kept.setup (omega arith) (omega arith) in
-    ap (λ (l : List ℕ). head (λ (g : Head). check_in g.version (λ _. body g)) (record { before = []; rest = l }))
-    (append_assoc x (y ++ z) more)
-    ∙ checked_again head h front (λ (g : Head). g.version) body [] ((y ++ z) ++ more) first
-    ∙ ap (λ (l : List ℕ). body h (record { before = x; rest = l })) (append_assoc y z more)
-    ∙ checked_again (past h) past_is.p folded (λ _. v) (rest_of h) x (z ++ more) past_is.again
-    ∙ rest_again v s a past_is.p (x ++ y) more kept past_is.state_is past_is.counted_is
-    ∙ ap (λ (l : List ℕ). end (contents s a) (record { before = l; rest = more })) (append_assoc x y z)
+    let first = skips_front h o (head_bytes v s n t) (origin_in v o)
+    (skips_head v s n t low high kept.setup (omega arith) (omega arith)) (origin_again v o is high old) in
+    ap (λ (l : List ℕ). front (λ (f : Head × Origin). check_in f.0.version (λ _. body f.0 f.1))
+    (record { before = []; rest = l })) (append_assoc x (y ++ z) more)
+    ∙ checked_again front (h, o) first_bytes (λ (f : Head × Origin). f.0.version)
+    (λ (f : Head × Origin). body f.0 f.1) [] ((y ++ z) ++ more) first
+    ∙ ap (λ (l : List ℕ). body h o (record { before = x; rest = l })) (append_assoc y z more)
+    ∙ checked_again (past h) past_is.p folded (λ _. v) (rest_of h o) x (z ++ more) past_is.again
+    ∙ rest_again v o s a past_is.p (x ++ y) more kept past_is.state_is past_is.counted_is
+    ∙ ap (λ (l : List ℕ). end (contents o s a) (record { before = l; rest = more })) (append_assoc x y z)
 
 -- what was spelled is read again, in any version
-pub file_again : (bytes : List ℕ) (s : Setting) (a : Accepted) (more : List ℕ) → IsReadable s a →
-    IsSpelled bytes s a →
-    reading_of (bytes ++ more) ≡ end (contents s a) (record { before = bytes; rest = more })
-file_again bytes s a more kept is =
+pub file_again : (bytes : List ℕ) (o : Origin) (s : Setting) (a : Accepted) (more : List ℕ) →
+    IsIdentity o.identity → IsReadable s a → IsSpelled bytes o s a →
+    reading_of (bytes ++ more) ≡ end (contents o s a) (record { before = bytes; rest = more })
+file_again bytes o s a more named kept is =
     ap (λ (l : List ℕ). reading_of (l ++ more)) is.bytes_are
-    ∙ file_in_again is.file_version s a more kept is.low is.high is.unfolded_is
-    ∙ ap (λ (l : List ℕ). end (contents s a) (record { before = l; rest = more })) (sym is.bytes_are)
+    ∙ file_in_again is.file_version o s a more named kept is.low is.high is.unfolded_is is.origin_is
+    ∙ ap (λ (l : List ℕ). end (contents o s a) (record { before = l; rest = more })) (sym is.bytes_are)

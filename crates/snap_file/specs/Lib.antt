@@ -1,3 +1,4 @@
+pub mod Origins
 pub mod Spelling
 pub mod Table
 pub mod Outcomes

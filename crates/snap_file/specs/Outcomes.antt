@@ -9,6 +9,7 @@ use Rattle.batch_store.specs.Setups.{Setting}
 use Rattle.snap_file.specs.Spelling.{IsBytes, IsSnapshot}
 use Rattle.snap_file.specs.Table.{Input, Fault, Contents, Reading, fault_at, reading_of}
 use Rattle.batch_store.specs.Accepted.{Accepted}
+use Rattle.snap_file.specs.declared.origin.Origin.{Origin}
 use Rattle.snap_file.specs.declared.fault.SnapFault.{SnapFault}
 use Rattle.snap_file.specs.declared.fault.SnapFault.TheVariants.{Read, Memory, BadMark, BadVersion, BadHead}
 use Rattle.snap_file.specs.declared.fault.SnapFault.TheVariants.{TotalDiffers, Truncated, TooLong}
@@ -203,10 +204,10 @@ pub record Stops {S : Type 0} (gives : S → Result (List ℕ) DeviceFault → S
 
 -- The source gave a snapshot of these contents, and ended.
 pub record ReadsSnapshot {S : Type 0} (gives : S → Result (List ℕ) DeviceFault → S → Type 0) (failures : S → ℕ)
-    (ended : Type 0) (max_bytes : ℕ) (s t : S) (setup : Setting) (state : Accepted) : Type 0 where
+    (ended : Type 0) (max_bytes : ℕ) (s t : S) (origin : Origin) (setup : Setting) (state : Accepted) : Type 0 where
   pub answers : List (Result (List ℕ) DeviceFault)
   pub calls : Calls gives s answers t
   pub few : length answers ≤ max_bytes + 2
   pub at_end : ended
   pub none_failed : failures t ≡ failures s
-  pub snapshot : IsSnapshot max_bytes (bytes_of_calls answers) setup state
+  pub snapshot : IsSnapshot max_bytes (bytes_of_calls answers) origin setup state

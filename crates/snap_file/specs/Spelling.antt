@@ -1,7 +1,8 @@
--- The spellings of a setup and of what was accepted, by the version of the file. Version 3 is written: the head, what
--- is folded and each batch, each with a checksum behind it. Version 2 has no checksums, and version 1 nothing that is
--- folded either. Numbers are unsigned, the highest byte first.
-use Rattle.std.specs.Prelude.{◌≡◌, ℕ, ◌<◌, ◌≤◌, ◌^◌, List, [], ◌∷◌, ◌++◌, length, flat_map, Bool}
+-- The spellings of a setup and of what was accepted, by the version of the file. Version 4 is written: the head, what
+-- is folded and each batch, each with a checksum after it. The head ends by whose the file is. Version 3 doesn't say
+-- that. Version 2 has no checksums either, and version 1 nothing that is folded. Numbers are unsigned, the highest byte
+-- first.
+use Rattle.std.specs.Prelude.{◌≡◌, ℕ, ◌<◌, ◌≤◌, ◌^◌, List, [], ◌∷◌, ◌++◌, length, flat_map, Bool, nat_le}
 use Rattle.std.specs.Prelude.{◌&&◌, ◌==◌, if◌then◌else◌}
 use Rattle.crc32c.specs.Remainders.{checksum_of}
 use Rattle.std.specs.List.{concat, AllByRecursion, list_any}
@@ -14,6 +15,9 @@ use Rattle.batch_store.specs.Batches.{Submission}
 use Rattle.batch_store.specs.Accepted.{Accepted, unfolded, total_in}
 use Rattle.batch_store.specs.Books.{AreAccepted}
 use Rattle.batch_store.specs.declared.verdict.Entry.{Entry}
+use Rattle.snap_file.specs.Origins.{unknown, IsIdentity}
+use Rattle.snap_file.specs.declared.origin.Identity.{Identity}
+use Rattle.snap_file.specs.declared.origin.Origin.{Origin}
 pub use Rattle.byte_io.specs.Buffers.{IsBytes}
 
 -- a field of this width
@@ -24,12 +28,15 @@ number_bytes w n = to_be_bytes w n
 abbrev pub mark : ℕ
 mark = 0x48484d534e41500a
 
--- the version of files in which nothing is folded, and that of those that are written
+-- the version of files in which nothing is folded, the first with checksums, and the version that is written
 abbrev pub old_version : ℕ
 old_version = 1
 
+abbrev pub checked_version : ℕ
+checked_version = 3
+
 abbrev pub version : ℕ
-version = 3
+version = 4
 
 -- the head of a file of this version, with the number of batches that are not folded and the total of all
 abbrev pub head_bytes : ℕ → Setting → ℕ → ℕ → List ℕ
@@ -39,6 +46,22 @@ head_bytes v s batches total_all = concat (
     ∷ number_bytes w8 (length s.cuts) ∷ flat_map (number_bytes w64) s.cuts
     ∷ number_bytes w8 s.shards ∷ number_bytes w64 s.limit ∷ number_bytes w64 s.max_batches
     ∷ number_bytes w64 batches ∷ number_bytes w64 total_all ∷ [])
+
+-- a book and a window
+abbrev pub identity_bytes : Identity → List ℕ
+identity_bytes i =
+    number_bytes w64 i.book_high ++ (number_bytes w64 i.book_low ++ number_bytes w64 i.window)
+
+-- 1 where a log goes with the file
+abbrev pub flag : Bool → ℕ
+flag has_log = if has_log then 1 else 0
+
+abbrev pub origin_bytes : Origin → List ℕ
+origin_bytes o = identity_bytes o.identity ++ number_bytes w8 (flag o.has_log)
+
+-- what a file of this version has of it, at the end of its head: nothing in an older one
+unfoldable pub origin_in : ℕ → Origin → List ℕ
+origin_in v o = if v == version then origin_bytes o else []
 
 abbrev pub cell_bytes : Place × ℕ → List ℕ
 cell_bytes e = concat (number_bytes w64 e.0.0 ∷ number_bytes w64 e.0.1 ∷ number_bytes w64 e.1 ∷ [])
@@ -66,30 +89,30 @@ past_bytes base folded = number_bytes w64 (length folded) ++ (flat_map entry_byt
 unfoldable pub past_in : ℕ → Counts → List Entry → List ℕ
 past_in v base folded = if v == old_version then [] else past_bytes base folded
 
--- in a file of version 3 the checksum of all these bytes, with which the file begins
+-- from version 3 on the checksum of all these bytes, with which the file begins
 unfoldable pub check_bytes : ℕ → List ℕ → List ℕ
-check_bytes v front = if v == version then number_bytes w32 (checksum_of front) else []
+check_bytes v front = if nat_le checked_version v then number_bytes w32 (checksum_of front) else []
 
 -- a part of the file, and the checksum of all bytes up to its end
 abbrev pub checked_bytes : ℕ → List ℕ → List ℕ → List ℕ
 checked_bytes v front part = part ++ check_bytes v (front ++ part)
 
--- batches behind a front of the file, each with its checksum
+-- batches after a front of the file, each with its checksum
 abbrev pub batches_bytes : ℕ → List ℕ → List Submission → List ℕ
 batches_bytes v front [] = []
 batches_bytes v front (b ∷ list) =
     let part = checked_bytes v front (batch_bytes b) in part ++ batches_bytes v (front ++ part) list
 
 -- the file of this version
-abbrev pub file_in : ℕ → Setting → Accepted → List ℕ
-file_in v s a =
-    let x = checked_bytes v [] (head_bytes v s (length a.list) (total_in a)) in
+abbrev pub file_in : ℕ → Origin → Setting → Accepted → List ℕ
+file_in v o s a =
+    let x = checked_bytes v [] (head_bytes v s (length a.list) (total_in a) ++ origin_in v o) in
     let y = checked_bytes v x (past_in v a.base a.folded) in
     x ++ (y ++ batches_bytes v (x ++ y) a.list)
 
 -- the file as it is written
-abbrev pub file : Setting → Accepted → List ℕ
-file s a = file_in version s a
+abbrev pub file : Origin → Setting → Accepted → List ℕ
+file o s a = file_in version o s a
 
 -- whether one of these entries has this client and this number
 abbrev pub stands_in : ℕ → ℕ → List Entry → Bool
@@ -120,16 +143,19 @@ pub record IsKept (s : Setting) (a : Accepted) : Type 0 where
   pub few : len a.base < 2 ^ 64
   pub within : AllByRecursion (LiesWithin s.rows s.cols) (entries a.base)
 
--- The bytes are a file of this setup and of what was accepted, in one of the versions; the first has nothing folded.
-pub record IsSpelled (bytes : List ℕ) (s : Setting) (a : Accepted) : Type 0 where
+-- The bytes are a file of this origin, of this setup and of what was accepted, in one of the versions. The first has
+-- nothing folded, and the last alone says whose it is.
+pub record IsSpelled (bytes : List ℕ) (o : Origin) (s : Setting) (a : Accepted) : Type 0 where
   pub file_version : ℕ
   pub low : old_version ≤ file_version
   pub high : file_version ≤ version
   pub unfolded_is : file_version ≡ old_version → a ≡ unfolded a.list
-  pub bytes_are : bytes ≡ file_in file_version s a
+  pub origin_is : file_version < version → o ≡ unknown
+  pub bytes_are : bytes ≡ file_in file_version o s a
 
--- The bytes are a snapshot of this setup and of what was accepted.
-pub record IsSnapshot (max_bytes : ℕ) (bytes : List ℕ) (s : Setting) (a : Accepted) : Type 0 where
+-- The bytes are a snapshot of this origin, of this setup and of what was accepted.
+pub record IsSnapshot (max_bytes : ℕ) (bytes : List ℕ) (o : Origin) (s : Setting) (a : Accepted) : Type 0 where
   pub fits : length bytes ≤ max_bytes
+  pub named : IsIdentity o.identity
   pub kept : IsKept s a
-  pub spelled : IsSpelled bytes s a
+  pub spelled : IsSpelled bytes o s a

@@ -13,7 +13,9 @@ use Rattle.batch_store.specs.Setups.{Setting}
 use Rattle.batch_store.specs.Accepted.{Accepted, accepted, unfolded, entries_in, with_batch}
 use Rattle.batch_store.specs.Batches.{submission}
 use Rattle.batch_store.specs.declared.verdict.Entry.{Entry}
-use Rattle.snap_file.specs.Spelling.{mark, old_version, version, stands_in}
+use Rattle.snap_file.specs.Origins.{identity, origin, unknown}
+use Rattle.snap_file.specs.Spelling.{mark, old_version, checked_version, version, stands_in}
+use Rattle.snap_file.specs.declared.origin.Origin.{Origin}
 use Rattle.snap_file.specs.declared.head.Head.{Head}
 use Rattle.snap_file.specs.declared.fault.SnapFault.{SnapFault}
 use Rattle.snap_file.specs.declared.fault.SnapFault.TheVariants.{BadMark, BadVersion, BadHead, BadBatch, OutOfOrder}
@@ -32,6 +34,7 @@ pub record Fault : Type 0 where
   pub place : ℕ
 
 pub record Contents : Type 0 where
+  pub origin : Origin
   pub setup : Setting
   pub state : Accepted
 
@@ -78,11 +81,11 @@ field_in w low high kind = do
 unfoldable pub check : Part (Unit {0})
 check k input = number w32 (λ n. refuse_if (not (n == checksum_of input.before)) BadCheck k) input
 
--- a file of version 3 has a checksum here
+-- a file of version 3 or later has a checksum here
 unfoldable pub check_in : ℕ → Part (Unit {0})
-check_in v k = if v == version then check k else k tt
+check_in v k = if nat_le checked_version v then check k else k tt
 
--- a part, and in a file of version 3 the checksum of all bytes up to its end
+-- a part, and from version 3 on the checksum of all bytes up to its end
 abbrev pub checked : {A : Type 0} → ℕ → Part A → Part A
 checked v p = do
   x ← p
@@ -120,6 +123,19 @@ head = do
   batches ← field_in w64 0 setup.max_batches BadHead
   total ← field_in w64 0 setup.limit BadHead
   give (record { setup = setup; version = file_version; batches = batches; total = total })
+
+-- whose the file is: a book, a window, and whether a log goes with it
+unfoldable pub named : Part Origin
+named = do
+  high ← number w64
+  low ← number w64
+  window ← number w64
+  flag ← field_in w8 0 1 BadHead
+  give (origin (identity high low window) (flag == 1))
+
+-- the same in any version: an older one doesn't say it
+unfoldable pub origin_by : ℕ → Part Origin
+origin_by v k = if v == version then named k else k unknown
 
 -- the cells of a matrix that were read, the least place that the next one may have, and the sum of all counts so far
 pub record Tally : Type 0 where
@@ -232,26 +248,27 @@ batches_behind h (suc n) p = do
 unfoldable pub end : Contents → Reading
 end contents input = if length input.rest == 0 then Ok contents else fault_at ExtraBytes (length input.before + 1)
 
-abbrev pub contents : Setting → Accepted → Contents
-contents s a = record { setup = s; state = a }
+abbrev pub contents : Origin → Setting → Accepted → Contents
+contents o s a = record { origin = o; setup = s; state = a }
 
-abbrev pub contents_of : Head → Progress → Contents
-contents_of h p = contents h.setup p.state
+abbrev pub contents_of : Head → Origin → Progress → Contents
+contents_of h o p = contents o h.setup p.state
 
 -- what follows the batches
-abbrev pub ending : Head → Progress → Reading
-ending h p = refuse_if (not (p.counted == h.total)) TotalDiffers (λ _. end (contents_of h p))
+abbrev pub ending : Head → Origin → Progress → Reading
+ending h o p = refuse_if (not (p.counted == h.total)) TotalDiffers (λ _. end (contents_of h o p))
 
 -- the batches that aren't folded, and the end
-abbrev pub rest_of : Head → Progress → Reading
-rest_of h p = batches_behind h h.batches p (ending h)
+abbrev pub rest_of : Head → Origin → Progress → Reading
+rest_of h o p = batches_behind h h.batches p (ending h o)
+
+-- what follows the head
+abbrev pub body : Head → Origin → Reading
+body h o = checked h.version (past h) (rest_of h o)
 
 -- the whole file
-abbrev pub body : Head → Reading
-body h = checked h.version (past h) (rest_of h)
-
 abbrev pub whole : Reading
-whole = head (λ h. check_in h.version (λ _. body h))
+whole = head (λ h. origin_by h.version (λ o. check_in h.version (λ _. body h o)))
 
 abbrev pub from_front : List ℕ → Input
 from_front bytes = record { before = []; rest = bytes }

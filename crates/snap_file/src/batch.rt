@@ -135,13 +135,13 @@ pub fn read_batches<R: Source>(
     requires folded { HasPairs front.now.past.pairs front.now.past.folded.items }
     ensures ok { IfOk result (λ list. (s : R) (task : Task) →
         HasJudged R.read_gives R.failure_count task s r.old reader.old
-        (rest_of front.now.head (progress_in front.now.past)) →
+        (rest_of front.now.head front.now.origin (progress_in front.now.past)) →
         HasJudged R.read_gives R.failure_count task s r.new reader.new
-        (end (contents front.now.head.setup
+        (end (contents front.now.origin front.now.head.setup
         (accepted front.now.past.base.counts front.now.past.folded.items (values list.items))))) }
     ensures err { IfErr result (λ f. (s : R) (task : Task) →
         HasJudged R.read_gives R.failure_count task s r.old reader.old
-        (rest_of front.now.head (progress_in front.now.past)) →
+        (rest_of front.now.head front.now.origin (progress_in front.now.past)) →
         Stops R.read_gives R.failure_count (R.at_end r.new) task s r.new f) }
     ensures no_failure { OnOk result (R.failure_count r.new ≡ R.failure_count r.old) }
 {

@@ -10,6 +10,7 @@ ghost use Rattle.snap_file.specs.declared.fault.FileFault.{FileFault};
 
 use crate::beside::Beside;
 use crate::fault::{FileFault, SaveFault};
+use crate::origin::Origin;
 use crate::read::read_snapshot;
 use crate::saving::save_in;
 use crate::snapshot::Snapshot;
@@ -44,34 +45,34 @@ pub fn save<R: Files>(
     rt: &R,
     alloc: Global,
     path: &str,
+    origin: Origin,
     setup: &Setup,
     list: &BookList,
 ) -> Result<(), SaveFault>
     requires accepted { AreAccepted setup.now (accepted_in list.now) }
     requires based { HasBase setup.now list.now }
 {
-    save_telling(rt, alloc, path, setup, list, &mut None)
+    save_telling(rt, alloc, path, origin, setup, list).0
 }
 
-/// Saves a snapshot so. After a fault `error` is the system's number of the error, if it had one.
+/// Saves a snapshot so. After a fault it also returns the system's number of the error, if it had one.
 pub fn save_telling<R: Files>(
     rt: &R,
     alloc: Global,
     path: &str,
+    origin: Origin,
     setup: &Setup,
     list: &BookList,
-    error: &mut Option<i32>,
-) -> Result<(), SaveFault>
+) -> (Result<(), SaveFault>, Option<i32>)
     requires accepted { AreAccepted setup.now (accepted_in list.now) }
     requires based { HasBase setup.now list.now }
 {
     let mut folder = Beside::new(rt, path);
-    let saved = save_in(alloc, &mut folder, path, setup, list);
+    let saved = save_in(alloc, &mut folder, path, origin, setup, list);
     if saved.is_err() {
         folder.remove_made(alloc);
     }
-    *error = folder.error();
-    saved
+    (saved, folder.error())
 }
 
 /// Loads the snapshot under `path`, of at most `max_bytes` bytes, as `read_snapshot` reads it.

@@ -1,13 +1,14 @@
-//! Reads the head of a file.
+//! Reads the head of a file, and whose the file is.
 ghost use Rattle.std.specs.Prelude.{◌≡◌, ◌≢◌, ℕ, ◌+◌, ◌<◌, ◌≤◌, ◌^◌, List, [], length, take, Result, IfOk, OnOk, IfErr};
 ghost use Rattle.cells.specs.Bounds.{IsDimension};
 ghost use Rattle.layer_cascade.specs.Cuts.{AreCuts};
 ghost use Rattle.batch_store.specs.Setups.{Setting, setting};
-ghost use Rattle.snap_file.specs.Table.{Reading, head, setup_fields, cuts_behind};
+ghost use Rattle.snap_file.specs.Table.{Reading, head, setup_fields, cuts_behind, named, origin_by};
 ghost use Rattle.snap_file.specs.Outcomes.{Task, HasJudged, Stops};
 
 use crate::fault::SnapFault;
 use crate::limits::{MARK, OLD_VERSION, VERSION};
+use crate::origin::{Identity, Origin};
 use crate::reader::ByteReader;
 use batch_store::{MAX_BATCHES, MAX_SHARDS, Setup};
 use byte_io::Source;
@@ -128,4 +129,49 @@ pub fn read_head<R: Source>(reader: &mut ByteReader, r: &mut R) -> Result<Head, 
         batches,
         total,
     })
+}
+
+/// Reads whose a file is, as version 4 has it.
+fn read_named<R: Source>(reader: &mut ByteReader, r: &mut R) -> Result<Origin, SnapFault>
+    requires failures { R.failure_count r.old + 1 < 2 ^ 64 }
+    ensures ok { IfOk result (λ o. (s : R) (task : Task) (k : Origin → Reading) →
+        HasJudged R.read_gives R.failure_count task s r.old reader.old (named k) →
+        HasJudged R.read_gives R.failure_count task s r.new reader.new (k o)) }
+    ensures err { IfErr result (λ f. (s : R) (task : Task) (k : Origin → Reading) →
+        HasJudged R.read_gives R.failure_count task s r.old reader.old (named k) →
+        Stops R.read_gives R.failure_count (R.at_end r.new) task s r.new f) }
+    ensures no_failure { OnOk result (R.failure_count r.new ≡ R.failure_count r.old) }
+{
+    let (book_high, book_low) = reader.next_pair(r)?;
+    let window = reader.next_u64(r)?;
+    let flag = reader.next_u8_in(r, 0, 1, SnapFault::BadHead)?;
+    let has_log = flag == 1;
+    let identity = Identity {
+        book_high,
+        book_low,
+        window,
+    };
+    Ok(Origin { identity, has_log })
+}
+
+/// Reads whose a file of this version is.
+pub fn read_origin<R: Source>(
+    reader: &mut ByteReader,
+    r: &mut R,
+    version: u32,
+) -> Result<Origin, SnapFault>
+    requires failures { R.failure_count r.old + 1 < 2 ^ 64 }
+    ensures ok { IfOk result (λ o. (s : R) (task : Task) (k : Origin → Reading) →
+        HasJudged R.read_gives R.failure_count task s r.old reader.old (origin_by version k) →
+        HasJudged R.read_gives R.failure_count task s r.new reader.new (k o)) }
+    ensures err { IfErr result (λ f. (s : R) (task : Task) (k : Origin → Reading) →
+        HasJudged R.read_gives R.failure_count task s r.old reader.old (origin_by version k) →
+        Stops R.read_gives R.failure_count (R.at_end r.new) task s r.new f) }
+    ensures no_failure { OnOk result (R.failure_count r.new ≡ R.failure_count r.old) }
+{
+    if version != VERSION {
+        return Ok(Origin::unknown());
+    }
+    let origin = read_named(reader, r)?;
+    Ok(origin)
 }

@@ -7,9 +7,11 @@ ghost use Rattle.snap_file.specs.Snapshots.{Saved, HasBase};
 ghost use Rattle.snap_file.specs.declared.fault.SnapFault.{SnapFault};
 ghost use Rattle.snap_file.specs.declared.fault.FileFault.{FileFault};
 ghost use Rattle.snap_file.specs.declared.fault.SaveFault.{SaveFault};
+ghost use Rattle.snap_file.specs.declared.origin.Origin.{Origin};
 
 use crate::fault::{FileFault, SaveFault};
 use crate::file::{load_watched, save};
+use crate::origin::Origin;
 use crate::path_lock::{PathLock, lock_existing};
 use crate::snapshot::Snapshot;
 use batch_store::{BookList, Setup};
@@ -27,8 +29,8 @@ pub trait SnapshotFile {
     // What a load of at most so many bytes may answer, and what it leaves.
     ghost load_gives: { Self → ℕ → Result Saved FileFault → Self → Type 0 };
 
-    // What a save of this setup and of what was accepted may answer, and what it leaves.
-    ghost save_gives: { Self → Setting → Accepted → Result (Unit {0}) SaveFault → Self → Type 0 };
+    // What a save of this origin, of this setup and of what was accepted may answer, and what it leaves.
+    ghost save_gives: { Self → Origin → Setting → Accepted → Result (Unit {0}) SaveFault → Self → Type 0 };
 
     /// Loads the snapshot, of at most `max_bytes` bytes, as the function `load` does.
     fn load(&mut self, alloc: Global, max_bytes: u64) -> Result<Snapshot, FileFault>
@@ -37,10 +39,16 @@ pub trait SnapshotFile {
         ensures memory { IfErr result (λ f. f ≢ FileFault.Snap SnapFault.Memory) };
 
     /// Saves a snapshot, as the function `save` does.
-    fn save(&mut self, alloc: Global, setup: &Setup, list: &BookList) -> Result<(), SaveFault>
+    fn save(
+        &mut self,
+        alloc: Global,
+        origin: Origin,
+        setup: &Setup,
+        list: &BookList,
+    ) -> Result<(), SaveFault>
         requires accepted { AreAccepted setup.now (accepted_in list.now) }
         requires based { HasBase setup.now list.now }
-        ensures { save_gives self.old setup.now (accepted_in list.now) result self.new };
+        ensures { save_gives self.old origin setup.now (accepted_in list.now) result self.new };
 }
 
 /// The file under a path, and who is told of what is read of it.
@@ -61,14 +69,20 @@ impl<'a, R: Files, W: Watch> NamedFile<'a, R, W> {
 impl<'a, R: Files, W: Watch> SnapshotFile for NamedFile<'a, R, W> {
     ghost load_gives = { λ s max_bytes answer t. ⊤ };
 
-    ghost save_gives = { λ s setup a answer t. ⊤ };
+    ghost save_gives = { λ s origin setup a answer t. ⊤ };
 
     fn load(&mut self, alloc: Global, max_bytes: u64) -> Result<Snapshot, FileFault> {
         load_watched(self.rt, alloc, self.path, max_bytes, self.watch)
     }
 
-    fn save(&mut self, alloc: Global, setup: &Setup, list: &BookList) -> Result<(), SaveFault> {
-        save(self.rt, alloc, self.path, setup, list)
+    fn save(
+        &mut self,
+        alloc: Global,
+        origin: Origin,
+        setup: &Setup,
+        list: &BookList,
+    ) -> Result<(), SaveFault> {
+        save(self.rt, alloc, self.path, origin, setup, list)
     }
 }
 
@@ -97,7 +111,7 @@ impl<'a, R: Files<File = File>, W: Watch> LockedFile<'a, R, W> {
 impl<'a, R: Files<File = File>, W: Watch> SnapshotFile for LockedFile<'a, R, W> {
     ghost load_gives = { λ s max_bytes answer t. ⊤ };
 
-    ghost save_gives = { λ s setup a answer t. ⊤ };
+    ghost save_gives = { λ s origin setup a answer t. ⊤ };
 
     /// Takes the lock where it isn't held, `Busy` where another holds it, and loads. Where the lock can't be had, the
     /// save alone is refused.
@@ -109,11 +123,17 @@ impl<'a, R: Files<File = File>, W: Watch> SnapshotFile for LockedFile<'a, R, W> 
     }
 
     /// Saves, `Create` where the lock isn't held, and gives it back.
-    fn save(&mut self, alloc: Global, setup: &Setup, list: &BookList) -> Result<(), SaveFault> {
+    fn save(
+        &mut self,
+        alloc: Global,
+        origin: Origin,
+        setup: &Setup,
+        list: &BookList,
+    ) -> Result<(), SaveFault> {
         // Not held while output is written: where that is closed, the lock's file may have its number.
         let Some(_lock) = self.lock.take() else {
             return Err(SaveFault::Create);
         };
-        save(self.rt, alloc, self.path, setup, list)
+        save(self.rt, alloc, self.path, origin, setup, list)
     }
 }

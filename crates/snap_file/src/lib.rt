@@ -14,6 +14,7 @@ mod kept_file;
 mod laws;
 mod limits;
 mod new_file;
+mod origin;
 mod past;
 mod path_lock;
 mod read;
@@ -38,6 +39,7 @@ pub use laws::{
     one_snapshot_spelled, refused_memory_hides_no_early_fault, shown_fault_stays,
     snapshot_or_faulty,
 };
+pub use origin::{Identity, NO_WINDOW, Origin};
 pub use path_lock::{PathLock, lock, lock_existing};
 pub use read::read_snapshot;
 pub use reader::{ByteReader, refuse};

@@ -6,8 +6,11 @@ pub const MARK: u64 = 0x4848_4d53_4e41_500a;
 /// The version of files in which nothing is folded. They are read, and none is written.
 pub const OLD_VERSION: u32 = 1;
 
-/// The version of the files that are written. Version 2, which is read, has no checksums.
-pub const VERSION: u32 = 3;
+/// The first version with checksums.
+pub const CHECKED_VERSION: u32 = 3;
+
+/// The version of the files that are written, and the first that says whose a file is.
+pub const VERSION: u32 = 4;
 
 /// Cells: so many of a matrix are read at a time, 96 KiB of them, which stay in the processor's own memory until they
 /// stand in the matrix.

@@ -8,15 +8,16 @@ ghost use Rattle.batch_store.specs.Accepted.{accepted};
 ghost use Rattle.batch_store.specs.declared.verdict.Entry.{Entry};
 ghost use Rattle.snap_file.specs.Spelling.{stands_in};
 ghost use Rattle.snap_file.specs.Table.{Reading, Progress, head, entry, entries_behind, base, past, with_entry};
-ghost use Rattle.snap_file.specs.Table.{nothing_yet, folded_past, check_in, checked};
+ghost use Rattle.snap_file.specs.Table.{nothing_yet, folded_past, origin_by, check_in, checked};
 ghost use Rattle.snap_file.specs.Outcomes.{Task, HasJudged, IsBehindHead, Stops};
 ghost use Rattle.snap_file.specs.Lists.{HasPairs, progress_in};
 ghost use Rattle.snap_file.specs.declared.fault.SnapFault.{SnapFault};
 
 use crate::entries::read_entries;
 use crate::fault::SnapFault;
-use crate::head::{Head, read_head};
+use crate::head::{Head, read_head, read_origin};
 use crate::limits::OLD_VERSION;
+use crate::origin::Origin;
 use crate::reader::{ByteReader, refuse};
 use crate::tally::{CellTally, passes};
 use batch_store::Entry;
@@ -39,6 +40,7 @@ pub struct Past {
 #[derive(Drop)]
 pub struct Front {
     pub head: Head,
+    pub origin: Origin,
     pub past: Past,
 }
 
@@ -252,23 +254,27 @@ fn read_past<R: Source>(
     Ok(past)
 }
 
-/// Reads the head and its checksum.
-fn read_checked_head<R: Source>(reader: &mut ByteReader, r: &mut R) -> Result<Head, SnapFault>
+/// Reads the head, whose the file is, and the checksum of both.
+fn read_checked_head<R: Source>(
+    reader: &mut ByteReader,
+    r: &mut R,
+) -> Result<(Head, Origin), SnapFault>
     requires failures { R.failure_count r.old + 1 < 2 ^ 64 }
-    ensures few { IfOk result (λ h. h.batches ≤ h.setup.max_batches) }
-    ensures ok { IfOk result (λ h. (s : R) (task : Task) (k : Head → Reading) →
+    ensures few { IfOk result (λ f. f.0.batches ≤ f.0.setup.max_batches) }
+    ensures ok { IfOk result (λ f. (s : R) (task : Task) (k : Head → Origin → Reading) →
         HasJudged R.read_gives R.failure_count task s r.old reader.old
-        (head (λ x. check_in x.version (λ _. k x))) →
-        HasJudged R.read_gives R.failure_count task s r.new reader.new (k h)) }
-    ensures err { IfErr result (λ f. (s : R) (task : Task) (k : Head → Reading) →
+        (head (λ h. origin_by h.version (λ o. check_in h.version (λ _. k h o)))) →
+        HasJudged R.read_gives R.failure_count task s r.new reader.new (k f.0 f.1)) }
+    ensures err { IfErr result (λ f. (s : R) (task : Task) (k : Head → Origin → Reading) →
         HasJudged R.read_gives R.failure_count task s r.old reader.old
-        (head (λ x. check_in x.version (λ _. k x))) →
+        (head (λ h. origin_by h.version (λ o. check_in h.version (λ _. k h o)))) →
         Stops R.read_gives R.failure_count (R.at_end r.new) task s r.new f) }
     ensures no_failure { OnOk result (R.failure_count r.new ≡ R.failure_count r.old) }
 {
     let head = read_head(reader, r)?;
+    let origin = read_origin(reader, r, head.version)?;
     reader.next_check_in(r, head.version)?;
-    Ok(head)
+    Ok((head, origin))
 }
 
 /// Reads what is folded and its checksum.
@@ -309,18 +315,20 @@ pub fn read_front<R: Source>(
     ensures counted { IfOk result (λ f. f.past.counted ≤ f.head.total) }
     ensures pairs { IfOk result (λ f. HasPairs f.past.pairs f.past.folded.items) }
     ensures dims { IfOk result (λ f. (f.past.base.rows ≡ f.head.setup.rows) × (f.past.base.cols ≡ f.head.setup.cols)) }
-    ensures ok { IfOk result (λ f. (s : R) (task : Task) (k : Head → Progress → Reading) →
+    ensures ok { IfOk result (λ f. (s : R) (task : Task) (k : Head → Origin → Progress → Reading) →
         HasJudged R.read_gives R.failure_count task s r.old reader.old
-        (head (λ h. check_in h.version (λ _. checked h.version (past h) (k h)))) →
-        HasJudged R.read_gives R.failure_count task s r.new reader.new (k f.head (progress_in f.past))) }
-    ensures err { IfErr result (λ f. (s : R) (task : Task) (k : Head → Progress → Reading) →
-        ((h : Head) (p : Progress) → IsBehindHead (k h p)) →
+        (head (λ h. origin_by h.version (λ o. check_in h.version (λ _. checked h.version (past h) (k h o))))) →
+        HasJudged R.read_gives R.failure_count task s r.new reader.new
+        (k f.head f.origin (progress_in f.past))) }
+    ensures err { IfErr result (λ f. (s : R) (task : Task) (k : Head → Origin → Progress → Reading) →
+        ((h : Head) (o : Origin) (p : Progress) → IsBehindHead (k h o p)) →
         HasJudged R.read_gives R.failure_count task s r.old reader.old
-        (head (λ h. check_in h.version (λ _. checked h.version (past h) (k h)))) →
+        (head (λ h. origin_by h.version (λ o. check_in h.version (λ _. checked h.version (past h) (k h o))))) →
         Stops R.read_gives R.failure_count (R.at_end r.new) task s r.new f) }
     ensures no_failure { OnOk result (R.failure_count r.new ≡ R.failure_count r.old) }
 {
-    let head = read_checked_head(reader, r)?;
-    let past = read_checked_past(alloc, reader, r, &head)?;
-    Ok(Front { head, past })
+    let first = read_checked_head(reader, r)?;
+    let past = read_checked_past(alloc, reader, r, &first.0)?;
+    let (head, origin) = first;
+    Ok(Front { head, origin, past })
 }

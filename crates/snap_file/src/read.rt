@@ -51,13 +51,14 @@ fn read_whole<R: Source>(
     requires remainder { reader.old.remainder ≡ all_ones }
     ensures ok { IfOk result (λ snapshot.
         ReadsSnapshot R.read_gives R.failure_count
-        (R.at_end r.new) reader.old.max_bytes r.old r.new snapshot.setup (accepted_in snapshot.list)) }
+        (R.at_end r.new) reader.old.max_bytes r.old r.new snapshot.origin snapshot.setup
+        (accepted_in snapshot.list)) }
     ensures err { IfErr result (λ fault.
         Stops R.read_gives R.failure_count (R.at_end r.new) (snapshot_task reader.old.max_bytes) r.old r.new fault) }
 {
     let head = read_front(alloc, reader, r)?;
     let batches = read_batches(alloc, reader, r, &head)?;
-    let Front { head, past } = head;
+    let Front { head, origin, past } = head;
     let Past { base, folded, .. } = past;
     let base = share(alloc, base)?;
     reader.expect_end(r)?;
@@ -67,6 +68,7 @@ fn read_whole<R: Source>(
         batches,
     };
     Ok(Snapshot {
+        origin,
         setup: head.setup,
         list,
     })
@@ -94,10 +96,10 @@ pub fn read_snapshot<R: Source>(
     max_bytes: u64,
 ) -> Result<Snapshot, SnapFault>
     requires { R.failure_count r.old + 1 < 2 ^ 64 }
-    // The source ended, and what it gave is a file of exactly this setup and list.
+    // The source ended, and what it gave is a file of exactly this origin, setup and list.
     ensures ok { IfOk result (λ snapshot.
         ReadsSnapshot R.read_gives R.failure_count
-        (R.at_end r.new) max_bytes r.old r.new snapshot.setup (accepted_in snapshot.list)) }
+        (R.at_end r.new) max_bytes r.old r.new snapshot.origin snapshot.setup (accepted_in snapshot.list)) }
     // What it gave has this first fault; or a read failed; or memory was refused, and up to there no fault shows.
     ensures err { IfErr result (λ fault.
         Stops R.read_gives R.failure_count (R.at_end r.new) (snapshot_task max_bytes) r.old r.new fault) }

@@ -12,7 +12,7 @@ ghost use Rattle.byte_io.specs.Buffers.{Fills};
 ghost use Rattle.snap_file.specs.declared.fault.SnapFault.{SnapFault};
 
 use crate::fault::SnapFault;
-use crate::limits::{CELL_BYTES, VERSION};
+use crate::limits::{CELL_BYTES, CHECKED_VERSION};
 use byte_io::{DeviceFault, READ_CAPACITY, ReadBuffer, Source};
 use cells::Cell;
 use crc32c::Crc;
@@ -459,7 +459,7 @@ impl ByteReader {
         Ok(())
     }
 
-    /// The checksum that a file of this version has next: none but in version 3.
+    /// The checksum that a file of this version has next: none before version 3.
     pub fn next_check_in<R: Source>(
         &mut self,
         r: &mut R,
@@ -474,7 +474,7 @@ impl ByteReader {
             Stops R.read_gives R.failure_count (R.at_end r.new) task s r.new f) }
         ensures no_failure { OnOk result (R.failure_count r.new ≡ R.failure_count r.old) }
     {
-        if file_version != VERSION {
+        if file_version < CHECKED_VERSION {
             return Ok(());
         }
         self.next_check(r)?;
@@ -487,7 +487,7 @@ impl ByteReader {
         ensures ok { OnOk result ((s : R) (max_bytes : ℕ) (contents : Contents) →
             HasJudged R.read_gives R.failure_count (snapshot_task max_bytes) s r.old self.old (end contents) →
             ReadsSnapshot R.read_gives R.failure_count
-            (R.at_end r.new) max_bytes s r.new contents.setup contents.state) }
+            (R.at_end r.new) max_bytes s r.new contents.origin contents.setup contents.state) }
         ensures err { IfErr result (λ f. (s : R) (max_bytes : ℕ) (contents : Contents) →
             HasJudged R.read_gives R.failure_count (snapshot_task max_bytes) s r.old self.old (end contents) →
             Stops R.read_gives R.failure_count (R.at_end r.new) (snapshot_task max_bytes) s r.new f) }

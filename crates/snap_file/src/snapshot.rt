@@ -1,5 +1,6 @@
 //! A snapshot in memory.
 
+use crate::origin::Origin;
 use batch_store::{BookList, Setup};
 use std::marker::Model;
 
@@ -7,12 +8,14 @@ use std::marker::Model;
 /// the setup's dimensions, both limits hold, and the base is of the folded batches. So an engine is made of it unless
 /// memory is refused.
 ///
-/// Contracts see the setup and the list.
+/// Contracts see the origin, the setup and the list.
 #[derive(Drop)]
 pub struct Snapshot {
+    /// Whose the file is that it was read from, or that it is written to.
+    pub origin: Origin,
     /// Dimensions, cuts, shards and limits.
     pub setup: Setup,
-    /// The folded batches and those behind them, in order of acceptance.
+    /// The folded batches and those after them, in order of acceptance.
     pub list: BookList,
 }
 
@@ -23,7 +26,7 @@ impl Model for Snapshot {
 
     ghost coded = { coded_saved };
 
-    ghost view = { λ a. saved a.setup a.list };
+    ghost view = { λ a. saved a.origin a.setup a.list };
 
     ghost invariant = { λ a. IsSaved a.setup a.list };
 }

@@ -10,12 +10,14 @@ ghost use Rattle.batch_store.specs.Books.{list_total, AreAccepted, accepted_in};
 ghost use Rattle.batch_store.specs.Verdicts.{total_of_entries};
 ghost use Rattle.snap_file.specs.Snapshots.{HasBase};
 ghost use Rattle.snap_file.specs.Spelling.{number_bytes, version, head_bytes, cell_bytes, matrix_bytes, batch_bytes};
-ghost use Rattle.snap_file.specs.Spelling.{entry_bytes, past_bytes, check_bytes, checked_bytes, file};
+ghost use Rattle.snap_file.specs.Spelling.{entry_bytes, past_bytes, check_bytes, checked_bytes, file, flag};
+ghost use Rattle.snap_file.specs.Spelling.{origin_bytes, origin_in};
 ghost use Rattle.crc32c.specs.Remainders.{after_bytes};
 ghost use Rattle.snap_file.specs.Writing.{IsWriting};
 ghost use Rattle.byte_io.specs.Writing.{HasTaken, HasStopped};
 
 use crate::limits::{MARK, VERSION};
+use crate::origin::Origin;
 use crate::writer::ByteWriter;
 use batch_store::{Batch, BookList, Entry, Setup};
 use byte_io::{Sink, WRITE_CAPACITY, WriteFault};
@@ -56,6 +58,13 @@ fn push_cuts(writer: &mut ByteWriter, cuts: &[u64])
     }
 }
 
+/// The byte that says whether a log goes with a file.
+fn flag_of(has_log: bool) -> u8
+    ensures { result ≡ flag has_log }
+{
+    if has_log { 1 } else { 0 }
+}
+
 /// Appends the head of a file to nothing.
 fn push_head(writer: &mut ByteWriter, setup: &Setup, batches: u64, total: u64)
     requires empty { writer.old.pending ≡ [] }
@@ -77,6 +86,34 @@ fn push_head(writer: &mut ByteWriter, setup: &Setup, batches: u64, total: u64)
     writer.push_u64(setup.max_batches());
     writer.push_u64(batches);
     writer.push_u64(total);
+}
+
+/// Appends whose a file is.
+fn push_origin(writer: &mut ByteWriter, origin: Origin)
+    requires { length writer.old.pending + 25 ≤ WRITE_CAPACITY }
+    ensures taken { writer.new.taken ≡ writer.old.taken }
+    ensures pending { writer.new.pending ≡ writer.old.pending ++ origin_bytes origin }
+    ensures length { length writer.new.pending ≡ length writer.old.pending + 25 }
+    ensures summed { (r : ℕ) → writer.old.remainder ≡ after_bytes r writer.old.pending →
+        writer.new.remainder ≡ after_bytes r writer.new.pending }
+{
+    writer.push_u64(origin.identity.book_high);
+    writer.push_u64(origin.identity.book_low);
+    writer.push_u64(origin.identity.window);
+    writer.push_u8(flag_of(origin.has_log));
+}
+
+/// Appends the head of a file and whose it is, to nothing.
+fn push_front(writer: &mut ByteWriter, origin: Origin, setup: &Setup, batches: u64, total: u64)
+    requires empty { writer.old.pending ≡ [] }
+    ensures taken { writer.new.taken ≡ writer.old.taken }
+    ensures pending { writer.new.pending ≡ head_bytes version setup.now batches total ++ origin_in version origin }
+    ensures length { length writer.new.pending ≤ 143 }
+    ensures summed { (r : ℕ) → writer.old.remainder ≡ after_bytes r writer.old.pending →
+        writer.new.remainder ≡ after_bytes r writer.new.pending }
+{
+    push_head(writer, setup, batches, total);
+    push_origin(writer, origin);
 }
 
 /// Appends the checksum of all that was appended.
@@ -295,9 +332,10 @@ fn write_checked_past<W: Sink>(
     Ok(())
 }
 
-/// Writes the file of a setup and of what was accepted, of which the folded totals are the base's.
+/// Writes the file of an origin, a setup and of what was accepted. The folded totals are the base's.
 fn write_parts<W: Sink>(
     w: &mut W,
+    origin: Origin,
     setup: &Setup,
     base: &Hyper,
     folded: &[Entry],
@@ -306,15 +344,15 @@ fn write_parts<W: Sink>(
     requires failures { W.failure_count w.old + 1 < 2 ^ 64 }
     requires accepted { AreAccepted setup.now (accepted base.now.counts folded.now (values batches.now)) }
     ensures ok { OnOk result (HasTaken W.write_takes W.failure_count w.old w.new
-        (file setup.now (accepted base.now.counts folded.now (values batches.now)))) }
+        (file origin setup.now (accepted base.now.counts folded.now (values batches.now)))) }
     ensures err { IfErr result (λ f. HasStopped W.write_takes W.failure_count w.old w.new
-        (file setup.now (accepted base.now.counts folded.now (values batches.now))) f.written) }
+        (file origin setup.now (accepted base.now.counts folded.now (values batches.now))) f.written) }
 {
     let mut writer = ByteWriter::new();
     // The limit bounds the total.
     let _limit = setup.limit();
     let total = base.total() + total_of(batches);
-    push_head(&mut writer, setup, batches.len() as u64, total);
+    push_front(&mut writer, origin, setup, batches.len() as u64, total);
     write_check(&mut writer, w)?;
     write_checked_past(&mut writer, w, base, folded)?;
     for batch in batches {
@@ -323,18 +361,23 @@ fn write_parts<W: Sink>(
     writer.finish(w)
 }
 
-/// Writes the snapshot of a setup and a list, in version 3.
+/// Writes the snapshot of an origin, a setup and a list, in version 4.
 ///
 /// The list is one that a book of the setup hands out. At an Err `written` counts from the first byte of the file.
 /// Takes time in proportion to the bytes and no memory, copies no cell, and does not flush.
-pub fn write_snapshot<W: Sink>(w: &mut W, setup: &Setup, list: &BookList) -> Result<(), WriteFault>
+pub fn write_snapshot<W: Sink>(
+    w: &mut W,
+    origin: Origin,
+    setup: &Setup,
+    list: &BookList,
+) -> Result<(), WriteFault>
     requires failures { W.failure_count w.old + 1 < 2 ^ 64 }
     requires accepted { AreAccepted setup.now (accepted_in list.now) }
     requires based { HasBase setup.now list.now }
     ensures ok { OnOk result (HasTaken W.write_takes W.failure_count w.old w.new
-        (file setup.now (accepted_in list.now))) }
+        (file origin setup.now (accepted_in list.now))) }
     ensures err { IfErr result (λ f. HasStopped W.write_takes W.failure_count w.old w.new
-        (file setup.now (accepted_in list.now)) f.written) }
+        (file origin setup.now (accepted_in list.now)) f.written) }
 {
-    write_parts(w, setup, &list.base, &list.folded, &list.batches)
+    write_parts(w, origin, setup, &list.base, &list.folded, &list.batches)
 }

@@ -4,6 +4,7 @@ use Rattle.batch_store.specs.Setups.{Setting}
 use Rattle.batch_store.specs.Accepted.{Accepted}
 use Rattle.batch_store.specs.Books.{Listing, AreAccepted, accepted_in}
 use Rattle.snap_file.specs.Snapshots.{Saved, saved}
+use Rattle.snap_file.specs.declared.origin.Origin.{Origin}
 use Rattle.snap_file.specs.declared.fault.SnapFault.TheVariants as snap
 use Rattle.snap_file.specs.declared.fault.FileFault.{FileFault}
 use Rattle.snap_file.specs.declared.fault.FileFault.TheVariants as file
@@ -24,9 +25,9 @@ fault_told (Err e) P fault is h = subst P (sym is) h
 
 module _ {F : Type 0} (loads : F → ℕ → Result Saved FileFault → F → Type 0) (s t : F) where
   -- a load has answered what this setup and list are seen as
-  pub has_loaded : (v : Setting) (list : Listing) (x : Saved) → saved v list ≡ x → loads s most_bytes (Ok x) t →
-      AreAccepted v (accepted_in list) → HasLoaded loads s t (saved v list)
-  has_loaded v list x is h accepted = (subst (λ (y : Saved). loads s most_bytes (Ok y) t) (sym is) h, accepted)
+  pub has_loaded : (o : Origin) (v : Setting) (list : Listing) (x : Saved) → saved o v list ≡ x → loads s most_bytes (Ok x) t →
+      AreAccepted v (accepted_in list) → HasLoaded loads s t (saved o v list)
+  has_loaded o v list x is h accepted = (subst (λ (y : Saved). loads s most_bytes (Ok y) t) (sym is) h, accepted)
 
   pub load_told : (fault : FileFault) → fault ≢ file.Snap snap.Memory → loads s most_bytes (Err fault) t →
       IsReadTold loads s t (fault_of_file fault)
@@ -49,7 +50,7 @@ module _ {F : Type 0} (loads : F → ℕ → Result Saved FileFault → F → Ty
   all_later_told (Ok y) x h is = tt
   all_later_told (Err fault) x h is = later_told x fault h is
 
-  module _ (saves : F → Setting → Accepted → Result (Unit {0}) SaveFault → F → Type 0) where
+  module _ (saves : F → Origin → Setting → Accepted → Result (Unit {0}) SaveFault → F → Type 0) where
     pub fold_load_told : (fault : FileFault) → fault ≢ file.Snap snap.Memory → loads s most_bytes (Err fault) t →
         IsFoldTold loads saves s t (fold_fault_of_file fault)
     fold_load_told file.Memory not h = inl h

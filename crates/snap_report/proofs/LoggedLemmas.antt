@@ -1,7 +1,7 @@
 -- What is told of a snapshot and a log.
 use Rattle.std.proofs.Common.{◌≡◌, ◌≢◌, ℕ, ◌+◌, ◌<◌, ◌≤◌, ◌^◌, List, [], ◌∷◌, ◌++◌, length, Option, Some, None}
 use Rattle.std.proofs.Common.{Result, Ok, Err, IfErr, IsErrAnd, inl, inr, refl, sym, ap, subst, ◌∙◌, append_assoc, arith}
-use Rattle.std.proofs.Common.{get_or, take}
+use Rattle.std.proofs.Common.{get_or, take, true}
 use Rattle.std.proofs.lemmas.List.{length-map, take_more}
 use Rattle.std.specs.Arc.{arc_value}
 use Rattle.std.specs.declared.sync.Arc.{Arc}
@@ -20,7 +20,9 @@ use Rattle.batch_store.proofs.BookLaws.{accepted_none}
 use Rattle.batch_store.specs.Batches.{Submission, values}
 use Rattle.batch_store.specs.Accepted.{IsBase, unfolded}
 use Rattle.batch_store.specs.Books.{Listing, HaveDims, listed_in}
+use Rattle.snap_file.specs.Origins.{origin}
 use Rattle.snap_file.specs.Snapshots.{HasBase, IsSaved, Saved, saved}
+use Rattle.snap_file.specs.declared.origin.Origin.{Origin}
 use Rattle.hyper_matrix.specs.Shared.{LiesWithin}
 use Rattle.snap_file.specs.declared.fault.SnapFault.TheVariants as snap
 use Rattle.snap_file.specs.declared.fault.FileFault.{FileFault}
@@ -140,7 +142,7 @@ joined_based s v h bs list based joins = record {
   cols = ap (λ (l : Listing). l.base.cols) joins.list_is ∙ based.cols;
 }
 
-module _ (s : Setting) (v : Listing) (x : Saved) (is : saved s v ≡ x) (logged : LogFile) (bs : List Submission)
+module _ (o : Origin) (s : Setting) (v : Listing) (x : Saved) (is : saved o s v ≡ x) (logged : LogFile) (bs : List Submission)
     (all : bs ≡ batches_in logged.blocks.items) where
   pub joined_lines : (list : Listing) (line : List ℕ) → Joins s v logged.head bs list →
       line ≡ both_lines s list logged → (l : Listing) × AreJoined x logged l × (line ≡ both_lines x.setup l logged)
@@ -152,7 +154,7 @@ module _ (s : Setting) (v : Listing) (x : Saved) (is : saved s v ≡ x) (logged 
       IsJoinTold x logged (fault_of_join fault)
   joined_refused fault h =
       subst (λ (y : Saved). IsJoinTold y logged (fault_of_join fault)) is
-      (refused_of (saved s v) logged fault (subst (λ (l : List Submission). RefusesJoin s v logged.head l fault) all h))
+      (refused_of (saved o s v) logged fault (subst (λ (l : List Submission). RefusesJoin s v logged.head l fault) all h))
 
 -- five parts behind a text
 pub parts_behind : (text a b c d e : List ℕ) →
@@ -184,7 +186,8 @@ module _ {F L : Type 0} (loads : F → ℕ → Result Saved FileFault → F → 
   pub empty_refused : (found : Option Saved) (logged : LogFile) → HasFound loads s t found →
       reads u most_bytes (Ok logged) v → IsLogTold loads reads s t u v check.Memory
   empty_refused None logged loaded read =
-      refusal_told (saved logged.head.setup (listed_in logged.head.setup (unfolded []))) logged check.Memory
+      refusal_told (saved (origin logged.head.identity true) logged.head.setup
+          (listed_in logged.head.setup (unfolded []))) logged check.Memory
       (record { found = None; loaded = loaded; read = read; known_is = refl }) tt
   empty_refused (Some x) logged loaded read =
       refusal_told x logged check.Memory

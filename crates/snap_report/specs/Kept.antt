@@ -2,8 +2,8 @@
 --     HasLoaded loads s t x
 --                     the file, which went from s to t, has answered a load with the snapshot x, which a book accepts
 --     HasFolded loads saves s t x answer
---                     so it has, and then it has answered so to a save of the setup of x and of what x tells, with all
---                     its batches folded
+--                     so it has, and then it has answered so to a save of the origin and the setup of x and of what x
+--                     tells, with all its batches folded
 --     IsReadTold loads s t fault
 --                     what is told of the only call, a load: a fault of the file is told only where it is the answer
 --     IsFoldTold loads saves s t fault
@@ -15,6 +15,7 @@ use Rattle.batch_store.specs.Setups.{Setting}
 use Rattle.batch_store.specs.Accepted.{Accepted, summed, folded_into}
 use Rattle.batch_store.specs.Books.{Listing, AreAccepted, accepted_in}
 use Rattle.snap_file.specs.Snapshots.{Saved}
+use Rattle.snap_file.specs.declared.origin.Origin.{Origin}
 use Rattle.snap_file.specs.declared.fault.SnapFault.TheVariants as snap
 use Rattle.snap_file.specs.declared.fault.FileFault.{FileFault}
 use Rattle.snap_file.specs.declared.fault.FileFault.TheVariants as file
@@ -47,10 +48,10 @@ abbrev pub HasLoaded : {F : Type 0} → (F → ℕ → Result Saved FileFault �
 HasLoaded loads s t x = loads s most_bytes (Ok x) t × AreAccepted x.setup (accepted_in x.list)
 
 abbrev pub HasFolded : {F : Type 0} → (F → ℕ → Result Saved FileFault → F → Type 0) →
-    (F → Setting → Accepted → Result (Unit {0}) SaveFault → F → Type 0) → F → F → Saved →
+    (F → Origin → Setting → Accepted → Result (Unit {0}) SaveFault → F → Type 0) → F → F → Saved →
     Result (Unit {0}) SaveFault → Type 0
 HasFolded {F} loads saves s t x answer =
-    (loaded : F) × HasLoaded loads s loaded x × saves loaded x.setup (folded_in x.list) answer t
+    (loaded : F) × HasLoaded loads s loaded x × saves loaded x.origin x.setup (folded_in x.list) answer t
 
 abbrev pub IsReadTold : {F : Type 0} → (F → ℕ → Result Saved FileFault → F → Type 0) → F → F → CheckFault → Type 0
 IsReadTold loads s t (check.File fault) = IsFileFault fault × loads s most_bytes (Err fault) t
@@ -61,7 +62,7 @@ IsReadTold loads s t check.LogDiffers = ⊥
 IsReadTold loads s t (check.Join fault) = ⊥
 
 abbrev pub IsFoldTold : {F : Type 0} → (F → ℕ → Result Saved FileFault → F → Type 0) →
-    (F → Setting → Accepted → Result (Unit {0}) SaveFault → F → Type 0) → F → F → FoldFault → Type 0
+    (F → Origin → Setting → Accepted → Result (Unit {0}) SaveFault → F → Type 0) → F → F → FoldFault → Type 0
 IsFoldTold loads saves s t (fold.File fault) = IsFileFault fault × loads s most_bytes (Err fault) t
 IsFoldTold loads saves s t (fold.Save fault) =
     IsSaveFault fault × ((x : Saved) × HasFolded loads saves s t x (Err fault))

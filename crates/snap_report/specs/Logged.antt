@@ -19,10 +19,11 @@
 --                         read; a fault of the log's file where that is its answer; that they don't belong together where
 --                         both were read, and the join refuses them so
 use Rattle.std.specs.Prelude.{◌≡◌, ◌≢◌, ◌⊎◌, ℕ, ◌+◌, ◌≤◌, List, [], ◌∷◌, ◌++◌, length, codes, decimal}
-use Rattle.std.specs.Prelude.{Option, Some, None, Result, Ok, Err}
+use Rattle.std.specs.Prelude.{Option, Some, None, Result, Ok, Err, true}
 use Rattle.batch_store.specs.Setups.{Setting}
 use Rattle.batch_store.specs.Accepted.{unfolded}
 use Rattle.batch_store.specs.Books.{Listing, accepted_in, listed_in}
+use Rattle.snap_file.specs.Origins.{origin}
 use Rattle.snap_file.specs.Snapshots.{Saved, saved}
 use Rattle.snap_file.specs.declared.fault.FileFault.{FileFault}
 use Rattle.snap_file.specs.declared.fault.FileFault.TheVariants as file
@@ -65,7 +66,7 @@ HasFound loads s t None = loads s most_bytes (Err file.NotFound) t
 
 abbrev pub IsKnown : Option Saved → LogHead → Saved → Type 0
 IsKnown (Some x) h known = known ≡ x
-IsKnown None h known = known ≡ saved h.setup (listed_in h.setup (unfolded []))
+IsKnown None h known = known ≡ saved (origin h.identity true) h.setup (listed_in h.setup (unfolded []))
 
 pub record HasRead {F L : Type 0} (loads : F → ℕ → Result Saved FileFault → F → Type 0)
     (reads : L → ℕ → Result LogFile LogFileFault → L → Type 0) (s t : F) (u v : L) (known : Saved) (file : LogFile) :

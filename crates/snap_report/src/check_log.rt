@@ -27,7 +27,7 @@ use log_batches::block_pages;
 use log_head::LogHead;
 use log_join::join_log;
 use log_read::{Block, LogFile, all_batches};
-use snap_file::{FileFault, Snapshot, SnapshotFile};
+use snap_file::{FileFault, Origin, Snapshot, SnapshotFile};
 use std::alloc::{AllocError, Global};
 use std::sync::Arc;
 
@@ -69,6 +69,10 @@ fn known_beside(
         None => {
             let list = empty_list(alloc, &head.setup)?;
             Ok(Snapshot {
+                origin: Origin {
+                    identity: head.identity,
+                    has_log: true,
+                },
                 setup: head.setup,
                 list,
             })
@@ -124,7 +128,7 @@ fn lines_of(
         × (line.bytes ≡ both_lines known.setup list logged.now)) }
     ensures err { IfErr result (λ fault. IsJoinTold known logged.now fault) }
 {
-    let Snapshot { setup, list } = known;
+    let Snapshot { setup, list, .. } = known;
     let batches = all_batches(alloc, &logged.blocks)?;
     let both = join_log(alloc, &setup, list, &logged.head, &batches)?;
     let mut line = line_of_list(alloc, &setup, &both)?;

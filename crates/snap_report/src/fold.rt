@@ -98,9 +98,10 @@ fn fold_file<F: SnapshotFile>(alloc: Global, file: &mut F) -> Result<(u64, u64),
     ensures unwritten { IfErr result (λ fault. LeavesLine fault → ⊥) }
 {
     let snapshot = file.load(alloc, SNAPSHOT_BYTES)?;
+    let origin = snapshot.origin;
     let setup = snapshot.setup;
     let list = folded(alloc, &setup, snapshot.list)?;
-    file.save(alloc, &setup, &list)?;
+    file.save(alloc, origin, &setup, &list)?;
     Ok((list.folded.len() as u64, list.base.total()))
 }
 

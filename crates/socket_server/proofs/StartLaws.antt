@@ -1,12 +1,12 @@
 -- What a host has answered to a load and to a start of the log, in the words of the server.
 use Rattle.std.proofs.Common.{◌≡◌, ◌≢◌, ◌⊎◌, inl, inr, ℕ, List, sym, ap, ◌∙◌, subst}
-use Rattle.std.specs.Prelude.{Bool, Option, Some, None, Result, Ok, Err, IfErr, String, string_bytes}
+use Rattle.std.specs.Prelude.{Bool, Option, Some, None, Result, Ok, Err, IfOk, IfErr, String, string_bytes}
 use Rattle.hyper_matrix.specs.Matrix.{matrix}
 use Rattle.batch_store.specs.Accepted.{Accepted}
 use Rattle.batch_store.specs.Books.{Listing, listing, accepted_in, listed_in}
 use Rattle.batch_store.specs.Setups.{Setting}
 use Rattle.log_start.specs.declared.fault.StartFault.{StartFault}
-use Rattle.snap_file.specs.Snapshots.{Saved, HasBase}
+use Rattle.snap_file.specs.Snapshots.{Saved, saved, HasBase}
 use Rattle.snap_file.specs.declared.fault.FileFault.{FileFault}
 use Rattle.socket_server.specs.declared.fault.ServerFault.{ServerFault}
 use Rattle.socket_server.specs.declared.fault.ServerFault.TheVariants.{Memory, SnapshotDiffers}
@@ -33,6 +33,16 @@ module _ {H Z : Type 0} (loads : H → List ℕ → ℕ → Result Saved FileFau
   differs_told o v s (Ok x) there told = tt
   differs_told o v s (Err f) there is = subst (λ (g : ServerFault). IsLoadTold loads locks h o v g) (sym is.0)
       (s, there, is.1)
+
+  -- what a snapshot of this setup tells is loaded, whosever it is
+  pub list_loaded : (o : Option (String Z)) (must_load : Bool) (v : Setting) (s : Saved) (r : Result Listing ServerFault) →
+      HasLoaded loads h o (Ok s) → IfOk r (λ l. s ≡ saved s.origin v l) → IfOk r (λ l. HasBase v l) →
+      IfOk r (λ l. IsLoaded loads h o must_load v (accepted_in l))
+  list_loaded o must_load v s (Ok l) there is based = inl (
+    s.origin,
+    subst (λ (x : Saved). HasLoaded loads h o (Ok x)) (is ∙ ap (saved s.origin v) (sym (listed_again v l based))) there,
+  )
+  list_loaded o must_load v s (Err f) there is based = tt
 
 module _ {H Y Z : Type 0} (loads : H → List ℕ → ℕ → Result Saved FileFault → Type 0)
     (starts : H → List ℕ → Setting → Listing → Result Listing StartFault → Type 0) (h : H) (path : Option (String Y))

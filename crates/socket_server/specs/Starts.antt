@@ -27,6 +27,7 @@ use Rattle.batch_store.specs.declared.verdict.Entry.{Entry}
 use Rattle.batch_store.specs.Accepted.{Accepted, entries_in, unfolded}
 use Rattle.batch_store.specs.Books.{Listing, accepted_in, listed_in}
 use Rattle.snap_file.specs.Snapshots.{Saved, saved}
+use Rattle.snap_file.specs.declared.origin.Origin.{Origin}
 use Rattle.snap_file.specs.declared.fault.FileFault.{FileFault}
 use Rattle.snap_file.specs.declared.fault.FileFault.TheVariants as file
 use Rattle.log_start.specs.declared.fault.StartFault.{StartFault}
@@ -53,7 +54,7 @@ HasLoaded loads h (Some path) answer = loads h (string_bytes path) most_bytes an
 abbrev pub IsLoaded : {H Z : Type 0} → (H → List ℕ → ℕ → Result Saved FileFault → Type 0) → H → Option (String Z) →
     Bool → Setting → Accepted → Type 0
 IsLoaded loads h path must_load v a =
-    HasLoaded loads h path (Ok (saved v (listed_in v a)))
+    ((o : Origin) × HasLoaded loads h path (Ok (saved o v (listed_in v a))))
     ⊎ (((path ≡ None) ⊎ (HasLoaded loads h path (Err file.NotFound) × (must_load ≡ false))) × (a ≡ unfolded []))
 
 -- what is told of a log that was started, beside the log itself

@@ -20,6 +20,7 @@ use Rattle.log_file.specs.declared.writer.LogWriter.{LogWriter}
 use Rattle.log_file.proofs.LogLemmas.{log_is_read}
 use Rattle.batch_store.specs.Verdicts.{total_of_entries}
 use Rattle.log_head.specs.Heads.{HasHead, IsHead, head_page}
+use Rattle.log_head.proofs.ReadAgain.{written_head}
 use Rattle.log_head.specs.Links.{link_in}
 use Rattle.log_head.specs.declared.head.LogHead.{LogHead}
 use Rattle.open_log.specs.Rotations.{begun}
@@ -185,7 +186,7 @@ begun_lists head es is first total link = record {
   head = head;
   before = es;
   lists = [];
-  has_head = record { is = is; spelled = refl };
+  has_head = written_head head is;
   first_is = refl;
   before_is = sym first;
   total_is = sym total;

@@ -43,15 +43,16 @@ pub fn b12() -> [u8; PAGE] {
 
 /// The head of a log with nothing before it.
 pub fn head() -> [u8; PAGE] {
-    head_after([0, 0, 0], 0xba8a_a704)
+    head_after([0, 0, 0], 0x9ed9_5ae1)
 }
 
 /// The head of a log after a snapshot: its bytes from the number of batches before the log on, and the page's checksum.
+/// Its book isn't known, and it has no window.
 pub fn head_after(before: [u64; 3], checksum: u64) -> [u8; PAGE] {
     let mut page = [0; PAGE];
     let fields = [
         0x4848_4d2d_4c4f_470a,
-        0x0000_0001_0000_0000,
+        0x0000_0002_0000_0000,
         0x0000_0003_0000_0000,
         0x0000_0003_0200_0000,
         0x0000_0000_0200_0000,
@@ -61,6 +62,7 @@ pub fn head_after(before: [u64; 3], checksum: u64) -> [u8; PAGE] {
     ];
     put_numbers(&mut page, 0, &fields);
     put_numbers(&mut page, 64, &before);
+    put_numbers(&mut page, 98, &[u64::MAX]);
     put_numbers(&mut page, PAGE - 8, &[checksum]);
     page
 }

@@ -41,7 +41,7 @@ pub static BOTH: &[u8] = b"HHMSNAP\n\0\0\0\x02\
 \0\0\0\0\0\0\0\x08\0\0\0\0\0\0\0\x01\0\0\0\0\0\0\0\x01\
 \0\0\0\0\0\0\0\0\0\0\0\0\0\0\0\0\0\0\0\0\0\0\0\x03";
 
-/// `ONE` in version 3, as it is written. After the head, what is folded and the batch come the checksums 163ee4f6,
+/// `ONE` in version 3. After the head, what is folded and the batch come the checksums 163ee4f6,
 /// d0540e0d and 5ed02458, which another program made.
 pub static CHECKED_ONE: &[u8] = b"HHMSNAP\n\0\0\0\x03\
 \0\0\0\0\0\0\0\x03\0\0\0\0\0\0\0\x03\
@@ -70,6 +70,55 @@ pub static CHECKED_BOTH: &[u8] = b"HHMSNAP\n\0\0\0\x03\
 \0\0\0\0\0\0\0\x08\0\0\0\0\0\0\0\x01\0\0\0\0\0\0\0\x01\
 \0\0\0\0\0\0\0\0\0\0\0\0\0\0\0\0\0\0\0\0\0\0\0\x03\
 \xca\xc2\x29\x80";
+
+/// `ONE` in version 4, as it is written where its book isn't known: the head ends by 16 bytes 00, no window, and no log.
+/// Another program made the checksums.
+pub static WRITTEN_ONE: &[u8] = b"HHMSNAP\n\0\0\0\x04\
+\0\0\0\0\0\0\0\x03\0\0\0\0\0\0\0\x03\
+\x02\0\0\0\0\0\0\0\x02\0\0\0\0\0\0\0\x04\
+\x02\0\0\0\0\0\0\0\x64\0\0\0\0\0\0\0\x0a\
+\0\0\0\0\0\0\0\x01\0\0\0\0\0\0\0\x05\
+\0\0\0\0\0\0\0\0\0\0\0\0\0\0\0\0\
+\xff\xff\xff\xff\xff\xff\xff\xff\x00\
+\xd3\x87\x76\xcd\
+\0\0\0\0\0\0\0\0\0\0\0\0\0\0\0\0\
+\x51\x4e\x02\x00\
+\0\0\0\0\0\0\0\x07\0\0\0\0\0\0\0\x01\0\0\0\0\0\0\0\x01\
+\0\0\0\0\0\0\0\0\0\0\0\0\0\0\0\0\0\0\0\0\0\0\0\x05\
+\xbe\x3b\xb4\x96";
+
+/// The same of the book 00112233445566778899aabbccddeeff, with a log.
+pub static NAMED_ONE: &[u8] = b"HHMSNAP\n\0\0\0\x04\
+\0\0\0\0\0\0\0\x03\0\0\0\0\0\0\0\x03\
+\x02\0\0\0\0\0\0\0\x02\0\0\0\0\0\0\0\x04\
+\x02\0\0\0\0\0\0\0\x64\0\0\0\0\0\0\0\x0a\
+\0\0\0\0\0\0\0\x01\0\0\0\0\0\0\0\x05\
+\0\x11\x22\x33\x44\x55\x66\x77\x88\x99\xaa\xbb\xcc\xdd\xee\xff\
+\xff\xff\xff\xff\xff\xff\xff\xff\x01\
+\xca\x0f\x41\x53\
+\0\0\0\0\0\0\0\0\0\0\0\0\0\0\0\0\
+\xa1\x2c\x3b\x5e\
+\0\0\0\0\0\0\0\x07\0\0\0\0\0\0\0\x01\0\0\0\0\0\0\0\x01\
+\0\0\0\0\0\0\0\0\0\0\0\0\0\0\0\0\0\0\0\0\0\0\0\x05\
+\x79\xb4\x08\x2c";
+
+/// `BOTH` in version 4, likewise without a known book.
+pub static WRITTEN_BOTH: &[u8] = b"HHMSNAP\n\0\0\0\x04\
+\0\0\0\0\0\0\0\x03\0\0\0\0\0\0\0\x03\
+\x02\0\0\0\0\0\0\0\x02\0\0\0\0\0\0\0\x04\
+\x02\0\0\0\0\0\0\0\x64\0\0\0\0\0\0\0\x0a\
+\0\0\0\0\0\0\0\x01\0\0\0\0\0\0\0\x08\
+\0\0\0\0\0\0\0\0\0\0\0\0\0\0\0\0\
+\xff\xff\xff\xff\xff\xff\xff\xff\x00\
+\x20\x0b\xb4\x77\
+\0\0\0\0\0\0\0\x01\
+\0\0\0\0\0\0\0\x07\0\0\0\0\0\0\0\x01\0\0\0\0\0\0\0\x01\0\0\0\0\0\0\0\x05\
+\0\0\0\0\0\0\0\x01\
+\0\0\0\0\0\0\0\0\0\0\0\0\0\0\0\0\0\0\0\0\0\0\0\x05\
+\x08\xac\x6b\xc8\
+\0\0\0\0\0\0\0\x08\0\0\0\0\0\0\0\x01\0\0\0\0\0\0\0\x01\
+\0\0\0\0\0\0\0\0\0\0\0\0\0\0\0\0\0\0\0\0\0\0\0\x03\
+\x12\x31\xda\x64";
 
 /// Limit of the bytes that the tests read.
 pub const MAX_BYTES: u64 = 1 << 40;

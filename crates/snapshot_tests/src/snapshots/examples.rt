@@ -1,12 +1,14 @@
 //! The worked examples: read, and written again.
 
-use crate::snapshots::bytes::{BOTH, CHECKED_BOTH, CHECKED_ONE, ONE, read};
+use crate::snapshots::bytes::{
+    BOTH, CHECKED_BOTH, CHECKED_ONE, NAMED_ONE, ONE, WRITTEN_BOTH, WRITTEN_ONE, read,
+};
 use batch_store::{BookList, Entry, Setup};
 use byte_io::Script;
-use snap_file::write_snapshot;
+use snap_file::{Identity, NO_WINDOW, Origin, write_snapshot};
 use std::alloc::Global;
 use std::process::Abort;
-use test_support::same_at;
+use test_support::{same, same_at};
 
 // Whether this is the setup of the examples.
 fn is_setup(setup: &Setup) -> bool {
@@ -55,10 +57,10 @@ const ENTRY: Entry = Entry {
 fn examples_are_read(rt: HostRuntime) {
     let one = (true, [0, 1], (None, 0, 0, None), Some((7, 1, 5)));
     let both = (true, [1, 1], (Some(ENTRY), 1, 5, Some(5)), Some((8, 1, 3)));
-    for bytes in [ONE, CHECKED_ONE] {
+    for bytes in [ONE, CHECKED_ONE, WRITTEN_ONE, NAMED_ONE] {
         assert!(rt; same_at(&rt, &bytes, &told_of(&rt, rt.alloc(), bytes), &one));
     }
-    for bytes in [BOTH, CHECKED_BOTH] {
+    for bytes in [BOTH, CHECKED_BOTH, WRITTEN_BOTH] {
         assert!(rt; same_at(&rt, &bytes, &told_of(&rt, rt.alloc(), bytes), &both));
     }
 }
@@ -69,7 +71,7 @@ fn come_as(rt: &impl Abort, alloc: Global, bytes: &[u8], expected: &[u8]) -> boo
     let mut script = Script::new(alloc, Vec::new(alloc), None, None);
     // Any call on it gives the facts that it keeps.
     let list = &snapshot.list;
-    let answer = write_snapshot(&mut script, &snapshot.setup, list);
+    let answer = write_snapshot(&mut script, snapshot.origin, &snapshot.setup, list);
     let comes = answer == Ok(()) && script.written() == expected;
     drop(script);
     drop(snapshot);
@@ -77,8 +79,40 @@ fn come_as(rt: &impl Abort, alloc: Global, bytes: &[u8], expected: &[u8]) -> boo
 }
 
 #[test]
-fn what_is_read_is_written_in_version_three(rt: HostRuntime) {
-    for (bytes, expected) in [(ONE, CHECKED_ONE), (BOTH, CHECKED_BOTH)] {
+fn what_is_read_is_written_in_version_four(rt: HostRuntime) {
+    let rows = [
+        (ONE, WRITTEN_ONE),
+        (BOTH, WRITTEN_BOTH),
+        (CHECKED_ONE, WRITTEN_ONE),
+        (NAMED_ONE, NAMED_ONE),
+    ];
+    for (bytes, expected) in rows {
         assert!(rt; come_as(&rt, rt.alloc(), bytes, expected));
+    }
+}
+
+#[test]
+fn a_file_says_whose_it_is(rt: HostRuntime) {
+    let named = Origin {
+        identity: Identity {
+            book_high: 0x0011_2233_4455_6677,
+            book_low: 0x8899_aabb_ccdd_eeff,
+            window: NO_WINDOW,
+        },
+        has_log: true,
+    };
+    let unknown = Origin {
+        identity: Identity {
+            book_high: 0,
+            book_low: 0,
+            window: NO_WINDOW,
+        },
+        has_log: false,
+    };
+    for (bytes, origin) in [(NAMED_ONE, named), (ONE, unknown), (WRITTEN_ONE, unknown)] {
+        let snapshot = read(&rt, rt.alloc(), bytes, 7);
+        let found = snapshot.origin;
+        drop(snapshot);
+        assert!(rt; same(&rt, &found, &origin));
     }
 }

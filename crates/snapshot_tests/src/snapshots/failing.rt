@@ -1,6 +1,6 @@
 //! Reads and writes that fail in mid-stream.
 
-use crate::snapshots::bytes::{CHECKED_BOTH, MAX_BYTES, read};
+use crate::snapshots::bytes::{MAX_BYTES, WRITTEN_BOTH, read};
 use crate::sources::source;
 use byte_io::{Script, Source, WriteFault};
 use snap_file::{SnapFault, Snapshot, read_snapshot, write_snapshot};
@@ -25,12 +25,12 @@ fn fault_failing(
 // One byte a read, one read more at the end, and no read after that.
 #[test]
 fn each_read_fails_in_turn(rt: HostRuntime) {
-    let len = CHECKED_BOTH.len() as u64;
+    let len = WRITTEN_BOTH.len() as u64;
     for failing in 0..=len {
-        let found = fault_failing(&rt, rt.alloc(), CHECKED_BOTH, failing);
+        let found = fault_failing(&rt, rt.alloc(), WRITTEN_BOTH, failing);
         assert!(rt; same_at(&rt, &failing, &found, &(Some(SnapFault::Read), 1)));
     }
-    let found = fault_failing(&rt, rt.alloc(), CHECKED_BOTH, len + 1);
+    let found = fault_failing(&rt, rt.alloc(), WRITTEN_BOTH, len + 1);
     assert!(rt; same(&rt, &found, &(None, 0)));
 }
 
@@ -39,7 +39,7 @@ fn stops_at(alloc: Global, snapshot: &Snapshot, bytes: &[u8], room: usize) -> bo
     let mut script = Script::new(alloc, Vec::new(alloc), None, Some(room as u64));
     // Any use of it gives the facts that it keeps.
     let list = &snapshot.list;
-    let answer = write_snapshot(&mut script, &snapshot.setup, list);
+    let answer = write_snapshot(&mut script, snapshot.origin, &snapshot.setup, list);
     let fault = WriteFault {
         written: room as u128,
     };
@@ -50,13 +50,13 @@ fn stops_at(alloc: Global, snapshot: &Snapshot, bytes: &[u8], room: usize) -> bo
 
 #[test]
 fn each_write_fails_in_turn(rt: HostRuntime) {
-    let snapshot = read(&rt, rt.alloc(), CHECKED_BOTH, 64);
-    for room in 0..CHECKED_BOTH.len() {
+    let snapshot = read(&rt, rt.alloc(), WRITTEN_BOTH, 64);
+    for room in 0..WRITTEN_BOTH.len() {
         assert!(rt;
             holds_at(
                 &rt,
                 &room,
-                stops_at(rt.alloc(), &snapshot, CHECKED_BOTH, room)
+                stops_at(rt.alloc(), &snapshot, WRITTEN_BOTH, room)
             )
         );
     }

@@ -1,7 +1,7 @@
 //! Each fault of a snapshot's bytes, and each field at its bounds: bytes in place of others in the worked examples.
 
 use crate::snapshots::bytes::{
-    BOTH, CHECKED_ONE, MAX_BYTES, ONE, TWO, fault_changed, fault_within,
+    BOTH, CHECKED_ONE, MAX_BYTES, NAMED_ONE, ONE, TWO, fault_changed, fault_within,
 };
 use snap_file::SnapFault;
 use std::alloc::Global;
@@ -16,10 +16,12 @@ type Rows = &'static [(usize, &'static [u8], Option<SnapFault>)];
 static IN_VERSION_ONE: Rows = &[
     (0, b"h", Some(SnapFault::BadMark)),
     (11, b"\0", Some(SnapFault::BadVersion)),
-    (11, b"\x04", Some(SnapFault::BadVersion)),
-    // In version 2 its first batch would be the folded batches, and in version 3 the front of its client the checksum.
+    (11, b"\x05", Some(SnapFault::BadVersion)),
+    // In version 2 its first batch would be the folded batches, in version 3 the front of its client the checksum, and in
+    // version 4 the checksum would come after 25 bytes more.
     (11, b"\x02", Some(SnapFault::Truncated)),
     (11, b"\x03", Some(SnapFault::BadCheck)),
+    (11, b"\x04", Some(SnapFault::BadCheck)),
     // Rows: at least 1 and at most 2^60. The one cell is in row 0.
     (19, b"\0", Some(SnapFault::BadHead)),
     (19, b"\x01", None),
@@ -91,6 +93,14 @@ static CHECKED: Rows = &[
     (133, b"\x03", Some(SnapFault::BadBatch)),
 ];
 
+/// Of `NAMED_ONE`: a byte of the book, the byte that says whether there is a log, and the head's checksum.
+static NAMED: Rows = &[
+    (78, b"\x01", Some(SnapFault::BadCheck)),
+    (102, b"\0", Some(SnapFault::BadCheck)),
+    (102, b"\x02", Some(SnapFault::BadHead)),
+    (106, b"\0", Some(SnapFault::BadCheck)),
+];
+
 // Compares the faults of the bytes with each of the changes.
 fn expect_faults(rt: &(impl Abort + Eprint), alloc: Global, bytes: &[u8], rows: Rows) {
     for (at, with, expected) in rows {
@@ -105,6 +115,7 @@ fn changes_are_faults(rt: HostRuntime) {
     expect_faults(&rt, rt.alloc(), TWO, REPEATS);
     expect_faults(&rt, rt.alloc(), BOTH, FOLDED);
     expect_faults(&rt, rt.alloc(), CHECKED_ONE, CHECKED);
+    expect_faults(&rt, rt.alloc(), NAMED_ONE, NAMED);
 }
 
 #[test]

@@ -1,6 +1,6 @@
 //! Real files, in a folder of their own below the system's one for temporary files.
 
-use crate::snapshots::bytes::{BOTH, CHECKED_BOTH, CHECKED_ONE, MAX_BYTES, ONE, read};
+use crate::snapshots::bytes::{BOTH, MAX_BYTES, ONE, WRITTEN_BOTH, WRITTEN_ONE, read};
 use snap_file::{FileFault, SaveFault, SnapFault, Snapshot, load, lock, save, try_save};
 use std::fs::Permissions;
 use std::os::unix::fs::{MetadataExt, PermissionsExt, symlink};
@@ -11,7 +11,7 @@ use test_support::same;
 fn saved(rt: &HostRuntime, path: &str, snapshot: &Snapshot) -> Result<(), SaveFault> {
     // Any use of it gives the facts that it keeps.
     let list = &snapshot.list;
-    save(rt, rt.alloc(), path, &snapshot.setup, list)
+    save(rt, rt.alloc(), path, snapshot.origin, &snapshot.setup, list)
 }
 
 // How many batches a file has, folded ones too.
@@ -50,7 +50,7 @@ fn is_whole(rt: &HostRuntime, path: &str, bytes: &[u8], batches: usize) -> bool 
 #[test]
 fn what_is_saved_is_loaded(rt: HostRuntime) {
     let path = "/tmp/hhm_snap_file_saved";
-    for (bytes, written, batches) in [(BOTH, CHECKED_BOTH, 2), (ONE, CHECKED_ONE, 1)] {
+    for (bytes, written, batches) in [(BOTH, WRITTEN_BOTH, 2), (ONE, WRITTEN_ONE, 1)] {
         let snapshot = read(&rt, rt.alloc(), bytes, bytes.len());
         let answer = saved(&rt, path, &snapshot);
         drop(snapshot);
@@ -125,7 +125,7 @@ fn saved_beside_link(
 
 // Whether the saved file holds the snapshot, the other is as it was, and the first is no link. Both are removed.
 fn left_beside_link(rt: &HostRuntime, path: &str, other: &str) -> io::Result<[bool; 3]> {
-    let holds_one = holds(rt, path, CHECKED_ONE);
+    let holds_one = holds(rt, path, WRITTEN_ONE);
     let is_as_before = holds(rt, other, b"as it was");
     let is_file = fs::symlink_metadata(rt, path)?.is_file();
     fs::remove_file(rt, path)?;

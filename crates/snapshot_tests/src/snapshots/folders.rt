@@ -1,7 +1,7 @@
 //! Saves in a folder in memory, each of whose calls fails in turn.
 ghost use Rattle.std.specs.Prelude.{◌≡◌, ◌+◌, ◌<◌, ◌^◌};
 
-use crate::snapshots::bytes::{CHECKED_ONE, ONE, read};
+use crate::snapshots::bytes::{ONE, WRITTEN_ONE, read};
 use byte_io::WriteFault;
 use snap_file::{Folder, MemoryFolder, SaveFault, Snapshot, save_in};
 use std::alloc::Global;
@@ -32,7 +32,7 @@ fn saved(alloc: Global, folder: &mut MemoryFolder, snapshot: &Snapshot) -> Resul
 {
     // Any use of it gives the facts that it keeps.
     let list = &snapshot.list;
-    save_in(alloc, folder, "a", &snapshot.setup, list)
+    save_in(alloc, folder, "a", snapshot.origin, &snapshot.setup, list)
 }
 
 // Whether a file has these bytes.
@@ -77,6 +77,6 @@ fn each_call_fails_in_turn(rt: HostRuntime) {
     for (call, fault) in FAULTS {
         expect_save(&rt, rt.alloc(), &snapshot, Some(*call), Err(*fault), b"old");
     }
-    expect_save(&rt, rt.alloc(), &snapshot, Some(4), Ok(()), CHECKED_ONE);
+    expect_save(&rt, rt.alloc(), &snapshot, Some(4), Ok(()), WRITTEN_ONE);
     drop(snapshot);
 }

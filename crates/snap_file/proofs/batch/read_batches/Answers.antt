@@ -6,6 +6,7 @@ use Rattle.batch_store.specs.Accepted.{accepted}
 use Rattle.batch_store.specs.Batches.{values, entries_of}
 use Rattle.snap_file.specs.Table.{Reading, Progress, batches_behind, ending, check_in}
 use Rattle.snap_file.specs.declared.head.Head.{Head}
+use Rattle.snap_file.specs.declared.origin.Origin.{Origin}
 use Rattle.snap_file.specs.Outcomes.{IsOfBytes, HasJudged}
 use Rattle.snap_file.specs.Lists.{progress_in, progress_of}
 use Rattle.snap_file.proofs.StopLemmas.{stops_refused, read_passed}
@@ -35,12 +36,12 @@ batches-init g c =
       read = λ s m h. rw (sub-zero c.args.front.now.head.batches) (subst (λ (p : Progress).
           HasJudged {S = g.row.R.Denot} g.R.Source.read_gives g.R.Source.failure_count m s c.args.r.now
           c.args.reader.now (batches_behind c.args.front.now.head c.args.front.now.head.batches p
-          (ending c.args.front.now.head))) begun h);
+          (ending c.args.front.now.head c.args.front.now.origin))) begun h);
     }
 
 -- what follows the next batch, and its checksum behind that
-abbrev rest_behind : Head → ℕ → Progress → Reading
-rest_behind h rest p = batches_behind h rest p (ending h)
+abbrev rest_behind : Head → Origin → ℕ → Progress → Reading
+rest_behind h o rest p = batches_behind h rest p (ending h o)
 
 pub returns-in_err-read_batch-clause-err : goal.returns-in_err-read_batch-clause-err
 returns-in_err-read_batch-clause-err g c =
@@ -48,11 +49,11 @@ returns-in_err-read_batch-clause-err g c =
     let head = c.args.front.now.head in
     let rest = head.batches - (c.batches._i + 1) in
     let left : head.batches - c.batches._i ≡ suc rest = omega (arith, c.batches-test.true) in
-    c.in_err-read_batch.ensures.err s m (λ q. check_in head.version (λ _. rest_behind head rest q))
-    (λ q. behind_check_in head.version (λ _. rest_behind head rest q)
-    (behind_batches head rest q (ending head) (λ y. behind_ending head y)))
+    c.in_err-read_batch.ensures.err s m (λ q. check_in head.version (λ _. rest_behind head c.args.front.now.origin rest q))
+    (λ q. behind_check_in head.version (λ _. rest_behind head c.args.front.now.origin rest q)
+    (behind_batches head rest q (ending head c.args.front.now.origin) (λ y. behind_ending head c.args.front.now.origin y)))
     (batch_next {S = g.row.R.Denot} g.R.Source.read_gives g.R.Source.failure_count m s c.batches.r c.batches.reader
-    head (ending head) (head.batches - c.batches._i) rest (progress_of c.args.front.now.past c.batches.list) left
+    head (ending head c.args.front.now.origin) (head.batches - c.batches._i) rest (progress_of c.args.front.now.past c.batches.list) left
     (c.batches.invariant.read s m h)))
 
 pub returns-in_err-next_check_in-clause-err : goal.returns-in_err-next_check_in-clause-err
@@ -63,10 +64,10 @@ returns-in_err-next_check_in-clause-err g c =
     let rest = head.batches - (c.batches._i + 1) in
     let left : head.batches - c.batches._i ≡ suc rest = omega (arith, c.batches-test.true) in
     c.in_err-next_check_in.ensures.err s m
-    (λ _. rest_behind head rest (progress_of c.args.front.now.past c.read_batch.new.list))
-    (c.in_ok-read_batch.ensures.ok s m (λ q. check_in head.version (λ _. rest_behind head rest q))
+    (λ _. rest_behind head c.args.front.now.origin rest (progress_of c.args.front.now.past c.read_batch.new.list))
+    (c.in_ok-read_batch.ensures.ok s m (λ q. check_in head.version (λ _. rest_behind head c.args.front.now.origin rest q))
     (batch_next {S = g.row.R.Denot} g.R.Source.read_gives g.R.Source.failure_count m s c.batches.r c.batches.reader
-    head (ending head) (head.batches - c.batches._i) rest (progress_of c.args.front.now.past c.batches.list) left
+    head (ending head c.args.front.now.origin) (head.batches - c.batches._i) rest (progress_of c.args.front.now.past c.batches.list) left
     (c.batches.invariant.read s m h))))
 
 pub next_check_in-requires : goal.next_check_in-requires
@@ -88,10 +89,10 @@ batches-preserved g c = record {
       let rest = head.batches - (c.batches._i + 1) in
       let left : head.batches - c.batches._i ≡ suc rest = omega (arith, c.batches-test.true) in
       c.in_ok-next_check_in.ensures.ok s m
-      (λ _. rest_behind head rest (progress_of c.args.front.now.past c.read_batch.new.list))
-      (c.in_ok-read_batch.ensures.ok s m (λ q. check_in head.version (λ _. rest_behind head rest q))
+      (λ _. rest_behind head c.args.front.now.origin rest (progress_of c.args.front.now.past c.read_batch.new.list))
+      (c.in_ok-read_batch.ensures.ok s m (λ q. check_in head.version (λ _. rest_behind head c.args.front.now.origin rest q))
       (batch_next {S = g.row.R.Denot} g.R.Source.read_gives g.R.Source.failure_count m s c.batches.r c.batches.reader
-      head (ending head) (head.batches - c.batches._i) rest (progress_of c.args.front.now.past c.batches.list) left
+      head (ending head c.args.front.now.origin) (head.batches - c.batches._i) rest (progress_of c.args.front.now.past c.batches.list) left
       (c.batches.invariant.read s m h)));
 }
 
@@ -104,7 +105,7 @@ returns-in_err-refuse-clause-err g c =
     stops_refused {S = g.row.R.Denot} g.R.Source.read_gives g.R.Source.failure_count
     (g.R.Source.at_end c.batches.r) m s c.batches.r c.batches.reader _ TotalDiffers _
     (batch_last {S = g.row.R.Denot} g.R.Source.read_gives g.R.Source.failure_count m s c.batches.r c.batches.reader
-    c.args.front.now.head (ending c.args.front.now.head) (c.args.front.now.head.batches - c.batches._i)
+    c.args.front.now.head (ending c.args.front.now.head c.args.front.now.origin) (c.args.front.now.head.batches - c.batches._i)
     (progress_of c.args.front.now.past c.batches.list) none (c.batches.invariant.read s m h)) x.1 judged)
 
 pub returns-clause-ok : goal.returns-clause-ok
@@ -112,5 +113,5 @@ returns-clause-ok g c = λ s m h.
     let none : c.args.front.now.head.batches - c.batches._i ≡ 0 = omega (arith, c.batches-test.false) in
     read_passed {S = g.row.R.Denot} g.R.Source.read_gives g.R.Source.failure_count m s c.batches.r c.batches.reader _
     TotalDiffers _ (batch_last {S = g.row.R.Denot} g.R.Source.read_gives g.R.Source.failure_count m s c.batches.r
-    c.batches.reader c.args.front.now.head (ending c.args.front.now.head) (c.args.front.now.head.batches - c.batches._i)
+    c.batches.reader c.args.front.now.head (ending c.args.front.now.head c.args.front.now.origin) (c.args.front.now.head.batches - c.batches._i)
     (progress_of c.args.front.now.past c.batches.list) none (c.batches.invariant.read s m h)) c.in_ok-refuse.ensures.ok

@@ -12,8 +12,8 @@ invariant-batches g l = record {
   failures : g.R.Source.failure_count l.r ≡ g.R.Source.failure_count l.fn.r;
   read : (s : g.row.R.Denot) (m : Task) →
       HasJudged {S = g.row.R.Denot} g.R.Source.read_gives g.R.Source.failure_count m s l.fn.r l.fn.reader
-      (rest_of l.front.head (progress_in l.front.past)) →
+      (rest_of l.front.head l.front.origin (progress_in l.front.past)) →
       HasJudged {S = g.row.R.Denot} g.R.Source.read_gives g.R.Source.failure_count m s l.r l.reader
       (batches_behind l.front.head (l.front.head.batches - l._i) (progress_of l.front.past l.list)
-      (ending l.front.head));
+      (ending l.front.head l.front.origin));
 }

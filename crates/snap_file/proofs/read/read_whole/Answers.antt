@@ -16,7 +16,7 @@ pub returns-in_err-head-clause-err : goal.returns-in_err-head-clause-err
 returns-in_err-head-clause-err g c =
     let p = err_from_is_err_and c.from_residual.result c.from_residual.ensures.1 in
     rw (p.1, p.2)
-    (c.in_err-head.ensures.err c.args.r.now (snapshot_task c.args.reader.now.max_bytes) rest_of (λ h p. behind_rest h p)
+    (c.in_err-head.ensures.err c.args.r.now (snapshot_task c.args.reader.now.max_bytes) rest_of (λ h o p. behind_rest h o p)
     (read_begun {S = g.row.R.Denot} g.R.Source.read_gives g.R.Source.failure_count c.args.reader.now.max_bytes
     c.args.r.now c.args.reader.now c.requires.pending c.requires.taken c.requires.remainder refl))
 
@@ -47,7 +47,7 @@ returns-in_err-expect_end-clause-err g c =
     let p = err_from_is_err_and c.from_residual-in_err-expect_end.result c.from_residual-in_err-expect_end.ensures.1 in
     rw (p.1, p.2)
     (c.in_err-expect_end.ensures.err c.args.r.now c.args.reader.now.max_bytes
-    (contents c.in_ok-head.head.head.setup (accepted c.in_ok-head.head.past.base.counts
+    (contents c.in_ok-head.head.origin c.in_ok-head.head.head.setup (accepted c.in_ok-head.head.past.base.counts
     c.in_ok-head.head.past.folded.items (values c.in_ok-batches.batches.items)))
     (c.in_ok-batches.ensures.ok c.args.r.now (snapshot_task c.args.reader.now.max_bytes)
     (c.in_ok-head.ensures.ok c.args.r.now (snapshot_task c.args.reader.now.max_bytes) rest_of
@@ -59,7 +59,7 @@ invariant_of-list g c =
     subst (λ (m : Counts). IsBase m c.in_ok-head.head.past.folded.items)
     (sym (ap (λ (m : Matrix). m.counts) c.in_ok-base.ensures.ok))
     (c.in_ok-expect_end.ensures.ok c.args.r.now c.args.reader.now.max_bytes
-    (contents c.in_ok-head.head.head.setup (accepted c.in_ok-head.head.past.base.counts
+    (contents c.in_ok-head.head.origin c.in_ok-head.head.head.setup (accepted c.in_ok-head.head.past.base.counts
     c.in_ok-head.head.past.folded.items (values c.in_ok-batches.batches.items)))
     (c.in_ok-batches.ensures.ok c.args.r.now (snapshot_task c.args.reader.now.max_bytes)
     (c.in_ok-head.ensures.ok c.args.r.now (snapshot_task c.args.reader.now.max_bytes) rest_of
@@ -72,7 +72,7 @@ invariant_of-result g c = record {
   kept = subst (λ (m : Counts). IsKept c.in_ok-head.head.head.setup (accepted m c.in_ok-head.head.past.folded.items
       (values c.in_ok-batches.batches.items))) (sym (ap (λ (m : Matrix). m.counts) c.in_ok-base.ensures.ok))
       (c.in_ok-expect_end.ensures.ok c.args.r.now c.args.reader.now.max_bytes
-      (contents c.in_ok-head.head.head.setup (accepted c.in_ok-head.head.past.base.counts
+      (contents c.in_ok-head.head.origin c.in_ok-head.head.head.setup (accepted c.in_ok-head.head.past.base.counts
       c.in_ok-head.head.past.folded.items (values c.in_ok-batches.batches.items)))
       (c.in_ok-batches.ensures.ok c.args.r.now (snapshot_task c.args.reader.now.max_bytes)
       (c.in_ok-head.ensures.ok c.args.r.now (snapshot_task c.args.reader.now.max_bytes) rest_of
@@ -88,11 +88,11 @@ pub returns-clause-ok : goal.returns-clause-ok
 returns-clause-ok g c =
     subst (λ (m : Counts). ReadsSnapshot {S = g.row.R.Denot} g.R.Source.read_gives g.R.Source.failure_count
     (g.R.Source.at_end c.expect_end.new.r) c.args.reader.now.max_bytes c.args.r.now c.expect_end.new.r
-    c.in_ok-head.head.head.setup (accepted m c.in_ok-head.head.past.folded.items
+    c.in_ok-head.head.origin c.in_ok-head.head.head.setup (accepted m c.in_ok-head.head.past.folded.items
     (values c.in_ok-batches.batches.items)))
     (sym (ap (λ (m : Matrix). m.counts) c.in_ok-base.ensures.ok))
     (c.in_ok-expect_end.ensures.ok c.args.r.now c.args.reader.now.max_bytes
-    (contents c.in_ok-head.head.head.setup (accepted c.in_ok-head.head.past.base.counts
+    (contents c.in_ok-head.head.origin c.in_ok-head.head.head.setup (accepted c.in_ok-head.head.past.base.counts
     c.in_ok-head.head.past.folded.items (values c.in_ok-batches.batches.items)))
     (c.in_ok-batches.ensures.ok c.args.r.now (snapshot_task c.args.reader.now.max_bytes)
     (c.in_ok-head.ensures.ok c.args.r.now (snapshot_task c.args.reader.now.max_bytes) rest_of

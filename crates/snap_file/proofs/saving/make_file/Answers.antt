@@ -16,7 +16,7 @@ returns-in-Err-clause-kept g c =
     let begun = told_map _ _ (made_holds c.args.name.now) (g.F.Folder.files c.args.f.now)
     (g.F.Folder.files c.create.new.self) made in
     stopped_keeps g.F.Folder.write_takes g.F.Folder.files g.F.Folder.last_created g.met.F.Folder.write_appends
-    g.F.Folder.failure_count c.args.name.now (file c.args.setup.now (accepted_in c.args.list.now))
+    g.F.Folder.failure_count c.args.name.now (file c.args.origin c.args.setup.now (accepted_in c.args.list.now))
     c.in-Err.fault.written
     (g.F.Folder.files c.args.f.now) c.create.new.self c.write_new.new.f c.in-Err.ensures.err created begun
 
@@ -29,7 +29,7 @@ sync-requires-clause-created g c =
     (g.F.Folder.files c.create.new.self) made in
     let whole = taken_holds g.F.Folder.write_takes g.F.Folder.files g.F.Folder.last_created
     g.met.F.Folder.write_appends g.F.Folder.failure_count c.args.name.now
-    (file c.args.setup.now (accepted_in c.args.list.now)) (g.F.Folder.files c.args.f.now) c.create.new.self
+    (file c.args.origin c.args.setup.now (accepted_in c.args.list.now)) (g.F.Folder.files c.args.f.now) c.create.new.self
     c.write_new.new.f c.in_default.ensures.ok created begun in
     rw whole.0 refl
 
@@ -42,7 +42,7 @@ returns-in-Ok-clause-made g c =
     (g.F.Folder.files c.create.new.self) made in
     let whole = taken_holds g.F.Folder.write_takes g.F.Folder.files g.F.Folder.last_created
     g.met.F.Folder.write_appends g.F.Folder.failure_count c.args.name.now
-    (file c.args.setup.now (accepted_in c.args.list.now)) (g.F.Folder.files c.args.f.now) c.create.new.self
+    (file c.args.origin c.args.setup.now (accepted_in c.args.list.now)) (g.F.Folder.files c.args.f.now) c.create.new.self
     c.write_new.new.f c.in_default.ensures.ok created begun in
     rw c.in-Ok.ensures.same whole.1
 
@@ -55,7 +55,7 @@ returns-in-Err-sync-clause-kept g c =
     (g.F.Folder.files c.create.new.self) made in
     let whole = taken_holds g.F.Folder.write_takes g.F.Folder.files g.F.Folder.last_created
     g.met.F.Folder.write_appends g.F.Folder.failure_count c.args.name.now
-    (file c.args.setup.now (accepted_in c.args.list.now)) (g.F.Folder.files c.args.f.now) c.create.new.self
+    (file c.args.origin c.args.setup.now (accepted_in c.args.list.now)) (g.F.Folder.files c.args.f.now) c.create.new.self
     c.write_new.new.f c.in_default.ensures.ok created begun in
     told_then _ _ _ (λ x y z p q. others_then c.args.name.now x y z p.1 q) (g.F.Folder.files c.args.f.now)
     (g.F.Folder.files c.write_new.new.f) (g.F.Folder.files c.sync.new.self) whole.1

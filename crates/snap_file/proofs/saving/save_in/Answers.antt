@@ -10,12 +10,12 @@ use Rattle.snap_file.proofs.saving.save_in.Goals as goal
 pub rename-requires-clause-is_there : goal.rename-requires-clause-is_there
 rename-requires-clause-is_there g c =
     let same : c.as_str-2.result.now ≡ c.as_str.result.now = c.as_str-2.ensures.value ∙ sym c.as_str.ensures.value in
-    rw same (told_there c.as_str.result.now (file c.args.setup.now (accepted_in c.args.list.now))
+    rw same (told_there c.as_str.result.now (file c.args.origin c.args.setup.now (accepted_in c.args.list.now))
     (g.F.Folder.files c.args.f.now) (g.F.Folder.files c.make_file.new.f) c.in_ok-make_file.ensures.made)
 
 pub returns-in-Ok-rename-clause-saved : goal.returns-in-Ok-rename-clause-saved
 returns-in-Ok-rename-clause-saved g c =
-    let text = file c.args.setup.now (accepted_in c.args.list.now) in
+    let text = file c.args.origin c.args.setup.now (accepted_in c.args.list.now) in
     let path = c.args.path.now in
     let before = g.F.Folder.files c.args.f.now in
     let between = g.F.Folder.files c.make_file.new.f in

@@ -49,27 +49,27 @@ loop-batch-init g c =
       c.requires.accepted.based.adds_up,
       total_parts a,
     ) in
-    let begun = head_begun _ _ c.args.w.now c.args.setup.now a c.push_head.new.writer
-    (c.push_head.ensures.taken ∙ c.new-writer.ensures.taken)
-    (head_counted _ _ _ _ _ _ c.push_head.ensures.pending count sum)
-    (c.push_head.ensures.summed all_ones
+    let begun = head_begun _ _ c.args.w.now c.args.origin c.args.setup.now a c.push_front.new.writer
+    (c.push_front.ensures.taken ∙ c.new-writer.ensures.taken)
+    (head_counted _ _ _ _ _ _ _ c.push_front.ensures.pending count sum)
+    (c.push_front.ensures.summed all_ones
     (c.new-writer.ensures.remainder ∙ ap (after_bytes all_ones) (sym c.new-writer.ensures.pending))) in
     record {
       failures = c.in_ok-write_checked_past.ensures.failures ∙ c.in_ok-write_check.ensures.failures;
       counted = omega (
         arith,
-        c.push_head.ensures.taken,
-        c.push_head.ensures.length,
+        c.push_front.ensures.taken,
+        c.push_front.ensures.length,
         c.new-writer.ensures.taken,
         c.in_ok-write_check.ensures.count,
         c.in_ok-write_checked_past.ensures.count,
       );
-      written = batches_begun _ _ c.args.w.now _ c.args.setup.now a _
-          (c.in_ok-write_checked_past.ensures.ok c.args.w.now _ (front_of c.args.setup.now a)
-          (batches_of c.args.setup.now a) (past_left c.args.setup.now a)
-          (c.in_ok-write_check.ensures.ok c.args.w.now _ (head_of c.args.setup.now a)
-          (past_of c.args.setup.now a ++ batches_of c.args.setup.now a)
-          (head_left c.args.setup.now a) begun));
+      written = batches_begun _ _ c.args.w.now _ c.args.origin c.args.setup.now a _
+          (c.in_ok-write_checked_past.ensures.ok c.args.w.now _ (front_of c.args.origin c.args.setup.now a)
+          (batches_of c.args.origin c.args.setup.now a) (past_left c.args.origin c.args.setup.now a)
+          (c.in_ok-write_check.ensures.ok c.args.w.now _ (head_of c.args.origin c.args.setup.now a)
+          (past_of c.args.origin c.args.setup.now a ++ batches_of c.args.origin c.args.setup.now a)
+          (head_left c.args.origin c.args.setup.now a) begun));
     }
 
 pub returns-in_err-write_check-clause-err : goal.returns-in_err-write_check-clause-err
@@ -85,10 +85,10 @@ returns-in_err-write_check-clause-err g c =
       c.requires.accepted.based.adds_up,
       total_parts a,
     ) in
-    let begun = head_begun _ _ c.args.w.now c.args.setup.now a c.push_head.new.writer
-    (c.push_head.ensures.taken ∙ c.new-writer.ensures.taken)
-    (head_counted _ _ _ _ _ _ c.push_head.ensures.pending count sum)
-    (c.push_head.ensures.summed all_ones
+    let begun = head_begun _ _ c.args.w.now c.args.origin c.args.setup.now a c.push_front.new.writer
+    (c.push_front.ensures.taken ∙ c.new-writer.ensures.taken)
+    (head_counted _ _ _ _ _ _ _ c.push_front.ensures.pending count sum)
+    (c.push_front.ensures.summed all_ones
     (c.new-writer.ensures.remainder ∙ ap (after_bytes all_ones) (sym c.new-writer.ensures.pending))) in
     rw (p.1, p.2) (c.in_err-write_check.ensures.err c.args.w.now _ _ begun)
 
@@ -106,16 +106,16 @@ returns-in_err-write_checked_past-clause-err g c =
       c.requires.accepted.based.adds_up,
       total_parts a,
     ) in
-    let begun = head_begun _ _ c.args.w.now c.args.setup.now a c.push_head.new.writer
-    (c.push_head.ensures.taken ∙ c.new-writer.ensures.taken)
-    (head_counted _ _ _ _ _ _ c.push_head.ensures.pending count sum)
-    (c.push_head.ensures.summed all_ones
+    let begun = head_begun _ _ c.args.w.now c.args.origin c.args.setup.now a c.push_front.new.writer
+    (c.push_front.ensures.taken ∙ c.new-writer.ensures.taken)
+    (head_counted _ _ _ _ _ _ _ c.push_front.ensures.pending count sum)
+    (c.push_front.ensures.summed all_ones
     (c.new-writer.ensures.remainder ∙ ap (after_bytes all_ones) (sym c.new-writer.ensures.pending))) in
-    rw (p.1, p.2) (c.in_err-write_checked_past.ensures.err c.args.w.now _ (front_of c.args.setup.now a)
-    (batches_of c.args.setup.now a)
-    (c.in_ok-write_check.ensures.ok c.args.w.now _ (head_of c.args.setup.now a)
-    (past_of c.args.setup.now a ++ batches_of c.args.setup.now a)
-    (head_left c.args.setup.now a) begun))
+    rw (p.1, p.2) (c.in_err-write_checked_past.ensures.err c.args.w.now _ (front_of c.args.origin c.args.setup.now a)
+    (batches_of c.args.origin c.args.setup.now a)
+    (c.in_ok-write_check.ensures.ok c.args.w.now _ (head_of c.args.origin c.args.setup.now a)
+    (past_of c.args.origin c.args.setup.now a ++ batches_of c.args.origin c.args.setup.now a)
+    (head_left c.args.origin c.args.setup.now a) begun))
 
 pub total_of-requires : goal.total_of-requires
 total_of-requires g c =
@@ -165,13 +165,13 @@ finish-requires-clause-countable g c =
       length-map c.args.batches.now arc_value,
     )
 
-pub push_head-requires : goal.push_head-requires
-push_head-requires g c = record { empty = c.new-writer.ensures.pending }
+pub push_front-requires : goal.push_front-requires
+push_front-requires g c = record { empty = c.new-writer.ensures.pending }
 
 pub write_check-requires : goal.write_check-requires
 write_check-requires g c = record {
   failures = c.requires.failures;
-  countable = omega (arith, c.push_head.ensures.taken, c.push_head.ensures.length, c.new-writer.ensures.taken);
+  countable = omega (arith, c.push_front.ensures.taken, c.push_front.ensures.length, c.new-writer.ensures.taken);
 }
 
 pub write_checked_past-requires-clause-failures : goal.write_checked_past-requires-clause-failures
@@ -182,8 +182,8 @@ pub write_checked_past-requires-clause-countable : goal.write_checked_past-requi
 write_checked_past-requires-clause-countable g c =
     omega (
       arith,
-      c.push_head.ensures.taken,
-      c.push_head.ensures.length,
+      c.push_front.ensures.taken,
+      c.push_front.ensures.length,
       c.new-writer.ensures.taken,
       c.in_ok-write_check.ensures.count,
     )

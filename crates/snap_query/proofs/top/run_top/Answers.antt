@@ -9,16 +9,16 @@ use Rattle.snap_query.proofs.top.run_top.Goals as goal
 
 pub returns-in-Err-clause-told : goal.returns-in-Err-clause-told
 returns-in-Err-clause-told g c = inr (
-  saved c.snapshot.inside.setup c.snapshot.inside.list,
-  has_loaded g.F.SnapshotFile.load_gives c.args.file.now c.load.new.self c.snapshot.inside.setup
+  saved c.snapshot.inside.origin c.snapshot.inside.setup c.snapshot.inside.list,
+  has_loaded g.F.SnapshotFile.load_gives c.args.file.now c.load.new.self c.snapshot.inside.origin c.snapshot.inside.setup
       c.snapshot.inside.list c.in_ok-snapshot.snapshot c.snapshot.view_is c.in_ok-snapshot.ensures.answer
       c.snapshot.invariant.kept.accepted,
 )
 
 pub returns-clause-ok : goal.returns-clause-ok
 returns-clause-ok g c = on_ok_map c.write_top.result _ _ (λ h. (
-  saved c.snapshot.inside.setup c.snapshot.inside.list,
-  has_loaded g.F.SnapshotFile.load_gives c.args.file.now c.load.new.self c.snapshot.inside.setup
+  saved c.snapshot.inside.origin c.snapshot.inside.setup c.snapshot.inside.list,
+  has_loaded g.F.SnapshotFile.load_gives c.args.file.now c.load.new.self c.snapshot.inside.origin c.snapshot.inside.setup
       c.snapshot.inside.list c.in_ok-snapshot.snapshot c.snapshot.view_is c.in_ok-snapshot.ensures.answer
       c.snapshot.invariant.kept.accepted,
   (
@@ -31,8 +31,8 @@ returns-clause-ok g c = on_ok_map c.write_top.result _ _ (λ h. (
 
 pub returns-clause-output : goal.returns-clause-output
 returns-clause-output g c fault is = (
-  saved c.snapshot.inside.setup c.snapshot.inside.list,
-  has_loaded g.F.SnapshotFile.load_gives c.args.file.now c.load.new.self c.snapshot.inside.setup
+  saved c.snapshot.inside.origin c.snapshot.inside.setup c.snapshot.inside.list,
+  has_loaded g.F.SnapshotFile.load_gives c.args.file.now c.load.new.self c.snapshot.inside.origin c.snapshot.inside.setup
       c.snapshot.inside.list c.in_ok-snapshot.snapshot c.snapshot.view_is c.in_ok-snapshot.ensures.answer
       c.snapshot.invariant.kept.accepted,
   (

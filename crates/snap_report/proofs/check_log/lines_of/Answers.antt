@@ -16,7 +16,7 @@ push_log-requires-clause-pages c = read_pages c.args.logged.now c.requires
 
 pub returns-clause-ok : goal.returns-clause-ok
 returns-clause-ok c =
-    joined_lines c.known.inside.setup c.known.inside.list c.args.known c.known.view_is c.args.logged.now
+    joined_lines c.known.inside.origin c.known.inside.setup c.known.inside.list c.args.known c.known.view_is c.args.logged.now
     (values c.deref-2.result.now)
     (ap values c.deref-2.ensures.value ∙ c.in_ok-batches.ensures ∙ ap batches_in c.deref.ensures.value)
     c.in_ok-both.both c.push_log.new.line.bytes c.in_ok-both.ensures.ok

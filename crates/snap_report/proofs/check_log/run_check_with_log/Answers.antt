@@ -3,7 +3,7 @@ use Rattle.std.proofs.lemmas.Result.{on_ok_weaker}
 use Rattle.byte_io.specs.Writing.{HasTaken, HasStopped}
 use Rattle.snap_report.specs.Logged.{Checked, HasRead, IsLogTold}
 use Rattle.snap_report.specs.declared.fault.CheckFault.TheVariants.{Memory}
-use Rattle.snap_report.proofs.LoggedLemmas.{passed_on, empty_refused, refusal_told}
+use Rattle.snap_report.proofs.LoggedLemmas.{passed_on, empty_refused, output_told, refusal_told}
 use Rattle.snap_report.proofs.check_log.run_check_with_log.Goals as goal
 
 pub returns-in_err-known-clause-told : goal.returns-in_err-known-clause-told
@@ -49,6 +49,11 @@ returns-clause-ok g c =
       subst (λ (text : List ℕ). HasTaken g.W.Sink.write_takes g.W.Sink.failure_count c.args.w.now c.write_line.new.w
           text) told.2 h,
     )) c.write_line.ensures.ok
+
+pub returns-clause-told : goal.returns-clause-told
+returns-clause-told g c =
+    output_told g.F.SnapshotFile.load_gives g.L.KeptLog.read_gives c.args.file.now c.load_if_any.new.file
+    c.args.log.now c.read.new.self c.write_line.result c.write_line.ensures.only
 
 pub returns-clause-output : goal.returns-clause-output
 returns-clause-output g c fault is =

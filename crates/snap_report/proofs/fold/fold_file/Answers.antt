@@ -17,12 +17,12 @@ returns-clause-ok g c =
     let a = accepted_in c.snapshot.inside.list in
     let kept = c.snapshot.invariant.kept.accepted in
     let state = c.in_ok-list.ensures.state in (
-      saved c.snapshot.inside.setup c.snapshot.inside.list,
+      saved c.snapshot.inside.origin c.snapshot.inside.setup c.snapshot.inside.list,
       (
         c.load.new.self,
-        has_loaded g.F.SnapshotFile.load_gives c.args.file.now c.load.new.self c.snapshot.inside.setup
+        has_loaded g.F.SnapshotFile.load_gives c.args.file.now c.load.new.self c.snapshot.inside.origin c.snapshot.inside.setup
             c.snapshot.inside.list c.in_ok-snapshot.snapshot c.snapshot.view_is c.in_ok-snapshot.ensures.answer kept,
-        subst (λ (b : Accepted). g.F.SnapshotFile.save_gives c.load.new.self c.snapshot.inside.setup b (Ok tt)
+        subst (λ (b : Accepted). g.F.SnapshotFile.save_gives c.load.new.self c.snapshot.inside.origin c.snapshot.inside.setup b (Ok tt)
             c.save.new.self) state c.in_ok-save.ensures,
       ),
       omega (
@@ -47,8 +47,8 @@ returns-in_err-list-clause-told g c =
     fault_told c.from_residual-in_err-list.result
     (IsFoldTold g.F.SnapshotFile.load_gives g.F.SnapshotFile.save_gives c.args.file.now c.load.new.self) Memory
     c.from_residual-in_err-list.ensures.1 (inr (inl (
-      saved c.snapshot.inside.setup c.snapshot.inside.list,
-      has_loaded g.F.SnapshotFile.load_gives c.args.file.now c.load.new.self c.snapshot.inside.setup
+      saved c.snapshot.inside.origin c.snapshot.inside.setup c.snapshot.inside.list,
+      has_loaded g.F.SnapshotFile.load_gives c.args.file.now c.load.new.self c.snapshot.inside.origin c.snapshot.inside.setup
           c.snapshot.inside.list c.in_ok-snapshot.snapshot c.snapshot.view_is c.in_ok-snapshot.ensures.answer
           c.snapshot.invariant.kept.accepted,
     )))
@@ -60,11 +60,11 @@ returns-in_err-save-clause-told g c =
     (IsFoldTold g.F.SnapshotFile.load_gives g.F.SnapshotFile.save_gives c.args.file.now c.save.new.self)
     (fold_fault_of_save fault) c.from_residual-in_err-save.ensures.1
     (fold_save_told g.F.SnapshotFile.load_gives c.args.file.now c.save.new.self g.F.SnapshotFile.save_gives
-    (saved c.snapshot.inside.setup c.snapshot.inside.list) fault (
+    (saved c.snapshot.inside.origin c.snapshot.inside.setup c.snapshot.inside.list) fault (
       c.load.new.self,
-      has_loaded g.F.SnapshotFile.load_gives c.args.file.now c.load.new.self c.snapshot.inside.setup
+      has_loaded g.F.SnapshotFile.load_gives c.args.file.now c.load.new.self c.snapshot.inside.origin c.snapshot.inside.setup
           c.snapshot.inside.list c.in_ok-snapshot.snapshot c.snapshot.view_is c.in_ok-snapshot.ensures.answer
           c.snapshot.invariant.kept.accepted,
-      subst (λ (b : Accepted). g.F.SnapshotFile.save_gives c.load.new.self c.snapshot.inside.setup b (Err fault)
+      subst (λ (b : Accepted). g.F.SnapshotFile.save_gives c.load.new.self c.snapshot.inside.origin c.snapshot.inside.setup b (Err fault)
           c.save.new.self) c.in_ok-list.ensures.state c.in_err-save.ensures,
     ))
