@@ -7,7 +7,7 @@ total of a batch.
 """
 from typing import NamedTuple
 
-from program import MOST, SIZE, crc32c, field, fields
+from snap_bytes import MOST, SIZE, crc32c, field, fields
 
 PAGE = 4_096
 CHUNK = 4_072

@@ -17,13 +17,13 @@ from concurrent.futures import ThreadPoolExecutor
 
 import log_bytes
 from log_bytes import CHUNK, PAGE, SMALL, JoinFault, Log, LogFault, check_line, checked_head, entry_of, head, log, page
-from program import SOME, Case, field, fields, leave_room, run, snapshot
+from program import SOME, Case, leave_room, run
+from snap_bytes import NONE, field, fields, snapshot
 
 FIVE, THREE, NINE = (7, 1, [(0, 0, 5)]), (8, 1, [(0, 0, 3)]), (9, 1, [(2, 1, 4)])
 # A block of it has five pages.
 WIDE = SMALL._replace(rows=30, cols=30, limit=10_000)
 LARGE = (5, 2, [(row, col, 1) for row in range(28) for col in range(30)])
-NONE = ([], [])
 FOLDED = ([(7, 1, 1, 5)], [(0, 0, 5)])
 
 B1, B2, B12 = log_bytes.block(0, [FIVE]), log_bytes.block(1, [THREE]), log_bytes.block(0, [FIVE, THREE])

@@ -7,7 +7,6 @@ What is wanted was worked out by hand from docs/FORMATS.md, and never comes from
 line for each case that fails and at the end `N passed, M failed`; the status is 1 where one fails. Linux, and nothing
 but Python's own library.
 """
-import itertools
 import os
 import resource
 import signal
@@ -17,11 +16,10 @@ import tempfile
 import threading
 from typing import NamedTuple
 
+from snap_bytes import BANNER, MOST, NONE, SIZE, FirstFault, Snapshot, field, snapshot
+
 HERE = os.path.dirname(os.path.abspath(__file__))
-BANNER = "%%MatrixMarket matrix coordinate integer general\n"
 SYMMETRIC = "%%MatrixMarket matrix coordinate integer symmetric\n"
-MOST = 2**64 - 1
-SIZE = 2**60
 SMALL = BANNER + "3 3 4\n1 1 5\n3 2 7\n1 1 2\n2 3 0\n"
 SMALL_SUM = BANNER + "3 3 3\n1 1 7\n2 3 0\n3 2 7\n"
 
@@ -152,71 +150,6 @@ NO_LISTS = [
 
 # Lists that are no cuts: a number outside 1 to 2^40, numbers that don't rise, or more than seven.
 BAD_CUTS = ["0", "0,1", str(2**40 + 1), f"1,{2**40 + 1}", "4,4", "5,4", "1,2,3,4,5,6,7,8", str(MOST), "0" * 20]
-
-def field(value, size=8):
-    """A field of a snapshot: unsigned, the highest byte first."""
-    return value.to_bytes(size, "big")
-
-
-def fields(*values):
-    """Fields of eight bytes."""
-    return b"".join(field(value) for value in values)
-
-
-def table_entry(value):
-    """What a byte becomes with eight bits behind it, by the polynomial 1EDC6F41 with its bits turned round."""
-    for _ in range(8):
-        value = value >> 1 ^ (0x82F63B78 if value & 1 else 0)
-    return value
-
-
-CRC_TABLE = [table_entry(value) for value in range(256)]
-
-
-def crc32c(held, before=0):
-    """The checksum of RFC 3720, of these bytes behind those that have the checksum `before`."""
-    value = before ^ 2**32 - 1
-    for byte in held:
-        value = value >> 8 ^ CRC_TABLE[(value ^ byte) & 0xFF]
-    return value ^ 2**32 - 1
-
-
-assert crc32c(b"123456789") == 0xE3069283 and crc32c(bytes(32)) == 0x8A9136AA
-
-
-def snapshot(
-    batches, total, rows=3, cols=3, cuts=(2, 4), shards=2, limit=100, most=10, count=None, past=None, version=3
-):
-    """The bytes of a snapshot: of version 1, or of `version` where `past` has folded entries and the base's cells.
-
-    A batch is its client, its number and its cells; a cell is a row, a column, a count. A folded entry is its client,
-    its number, its number of cells and its total.
-    """
-    version = 1 if past is None else version
-    head = b"HHMSNAP\n" + field(version, 4) + fields(rows, cols) + field(len(cuts), 1) + fields(*cuts)
-    head += field(shards, 1) + fields(limit, most, len(batches) if count is None else count, total)
-    parts = [head]
-    if past is not None:
-        folded, base = past
-        parts.append(fields(len(folded), *itertools.chain(*folded)) + fields(len(base), *itertools.chain(*base)))
-    parts += [
-        fields(client, number, len(cells)) + b"".join(fields(*cell) for cell in cells)
-        for client, number, cells in batches
-    ]
-    held, value = bytearray(), 0
-    for part in parts:
-        held += part
-        if version == 3:
-            value = crc32c(part, value)
-            check = field(value, 4)
-            value = crc32c(check, value)
-            held += check
-    return bytes(held)
-
-
-# Nothing is folded.
-NONE = ([], [])
-
 
 ONE = [(7, 1, [(0, 0, 5)])]
 TWO = [(7, 1, [(0, 0, 5), (2, 1, 0)]), (8, 1, [(0, 0, 3), (0, 2, 4)])]
@@ -606,111 +539,6 @@ def unlike(path, wanted):
     with open(path, "rb") as file:
         found = file.read()
     return [] if found == wanted else [f"{path} has {found.hex()} in place of {wanted.hex()}"]
-
-
-class FirstFault(Exception):
-    """The first fault of a snapshot's bytes."""
-
-
-class Snapshot:
-    """What docs/FORMATS.md says of bytes, field after field: the line of `check`, or a `FirstFault`.
-
-    `fields` has the name of each field that was read, and where its bytes are.
-    """
-
-    def __init__(self, held):
-        self.held, self.at, self.fields = held, 0, []
-        self.head()
-        self.check()
-        self.sum, self.places, self.pairs, self.folded = 0, {}, set(), 0
-        if self.version > 1:
-            self.past()
-            self.check()
-        self.batches()
-        if self.sum != self.total:
-            raise FirstFault("TotalDiffers")
-        if self.at < len(held):
-            raise FirstFault("ExtraBytes")
-
-    def take(self, name, size, is_good, fault=None):
-        """The next field, which is judged once all its bytes are there."""
-        held = self.held[self.at : self.at + size]
-        if len(held) < size:
-            raise FirstFault("Truncated")
-        self.fields.append((name, range(self.at, self.at + size)))
-        self.at += size
-        value = int.from_bytes(held, "big")
-        if not is_good(value):
-            raise FirstFault(fault)
-        return value
-
-    def check(self):
-        """The checksum of all bytes before it, in version 3."""
-        if self.version == 3:
-            due = crc32c(self.held[: self.at])
-            self.take("checksum", 4, lambda value: value == due, "BadCheck")
-
-    def head(self):
-        def setting(name, least, most, size=8):
-            return self.take(name, size, lambda value: least <= value <= most, "BadHead")
-
-        self.take("mark", 8, lambda value: field(value) == b"HHMSNAP\n", "BadMark")
-        self.version = self.take("version", 4, lambda value: value in (1, 2, 3), "BadVersion")
-        self.rows, self.cols = setting("rows", 1, SIZE), setting("cols", 1, SIZE)
-        cut = 0
-        for _ in range(setting("cuts", 0, 7, 1)):
-            cut = setting("cut", cut + 1, 2**40)
-        self.shards = setting("shards", 1, 64, 1)
-        limit = setting("limit", 1, MOST)
-        self.most = setting("most", 1, 1_000_000)
-        self.count = setting("batches", 0, self.most)
-        self.total = setting("total", 0, limit)
-
-    def pair(self):
-        client = self.take("client", 8, lambda _: True)
-        number = self.take("number", 8, lambda value: (client, value) not in self.pairs, "RepeatedNumber")
-        self.pairs.add((client, number))
-
-    def past(self):
-        self.folded = self.take("folded", 8, lambda value: value + self.count <= self.most, "BadHead")
-        totals = 0
-        for _ in range(self.folded):
-            self.pair()
-            self.take("folded cells", 8, lambda _: True)
-            left = self.total - totals
-            totals += self.take("folded total", 8, lambda value, left=left: value <= left, "TotalDiffers")
-        self.cells(self.take("base", 8, lambda value: self.folded or value == 0, "BadBatch"), totals)
-        if self.sum != totals:
-            raise FirstFault("TotalDiffers")
-
-    def batches(self):
-        for _ in range(self.count):
-            self.pair()
-            self.cells(self.take("entries", 8, lambda _: True), self.total)
-            self.check()
-
-    def cells(self, count, most):
-        before = (-1, -1)
-        for _ in range(count):
-            row = self.take("row", 8, lambda value: value < self.rows, "BadBatch")
-            col = self.take("column", 8, lambda value: value < self.cols, "BadBatch")
-            if (row, col) <= before:
-                raise FirstFault("OutOfOrder")
-            before = row, col
-            count = self.take("count", 8, lambda value: self.sum + value <= most, "TotalDiffers")
-            self.places[before] = self.places.get(before, 0) + count
-            self.sum += count
-
-    def text(self):
-        """The canonical text of the sum of the batches."""
-        lines = [f"{row + 1} {col + 1} {count}\n" for (row, col), count in sorted(self.places.items())]
-        return f"{BANNER}{self.rows} {self.cols} {len(lines)}\n{''.join(lines)}"
-
-    def line(self):
-        return (
-            f"rows {self.rows} cols {self.cols} shards {self.shards} "
-            f"batches {self.folded + self.count} total {self.total} entries {len(self.places)}"
-        )
 
 
 def flipped_bits(program):
