@@ -104,7 +104,7 @@ def drawn(seed, count, size, most=1000):
     return batches
 
 
-def drawn_snapshot(batches, size, version=3):
+def drawn_snapshot(batches, size, version=4):
     total = sum(count for _, _, cells in batches for _, _, count in cells)
     past = None if version == 1 else NONE
     return snapshot(batches, total, size, size, limit=MOST, most=100, past=past, version=version)
@@ -141,7 +141,7 @@ def drawn_ones_are_summed(folder):
     for size, count in [(SIZE, 600), (1 << 32, 4000), (40, 300)]:
         lists = [drawn(seed, count, size) for seed in range(5)]
         paths = [
-            kept(folder, f"drawn{at}.snap", drawn_snapshot(batches, size, version=at % 3 + 1))
+            kept(folder, f"drawn{at}.snap", drawn_snapshot(batches, size, version=at % 4 + 1))
             for at, batches in enumerate(lists)
         ]
         counts = added(*(cells_of(batches) for batches in lists))

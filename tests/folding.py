@@ -62,9 +62,10 @@ def folded_in(path):
     """How many batches of a snapshot aren't folded, and how many are."""
     with open(path, "rb") as file:
         data = file.read()
-    # Behind the mark, the version, the dimensions and the cuts: shards, limit, most batches, batches, total, a check.
+    # After the mark, the version, the dimensions and the cuts: shards, limit, most batches, batches, total, book, window,
+    # log, a check.
     at = 29 + 8 * data[28]
-    _, _, _, rest, _, _, folded = struct.unpack_from(">BQQQQIQ", data, at)
+    _, _, _, rest, _, folded = struct.unpack_from(">BQQQQ29xQ", data, at)
     return rest, folded
 
 

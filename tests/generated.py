@@ -368,11 +368,11 @@ def batches_of(path):
     """The batches of a snapshot in which nothing is folded: of each its pair and its counts."""
     with open(path, "rb") as file:
         data = file.read()
-    # Behind the mark, the version, the dimensions and the cuts: shards, limit, most batches, batches, total and a check;
-    # then no folded batch, no cell of a base, and a check; and a check behind each batch.
-    head = ">BQQQQIQQI"
+    # After the mark, the version, the dimensions and the cuts: shards, limit, most batches, batches, total, book, window,
+    # log and a check; then no folded batch, no cell of a base, and a check; and a check after each batch.
+    head = ">BQQQQ29xQQI"
     at = 29 + 8 * data[28]
-    _, _, _, count, _, _, folded, base, _ = struct.unpack_from(head, data, at)
+    _, _, _, count, _, folded, base, _ = struct.unpack_from(head, data, at)
     check("nothing is folded", (folded, base), (0, 0))
     at += struct.calcsize(head)
     batches = []

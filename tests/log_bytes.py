@@ -7,7 +7,7 @@ total of a batch.
 """
 from typing import NamedTuple
 
-from snap_bytes import MOST, SIZE, crc32c, field, fields
+from snap_bytes import MOST, OWNED, SIZE, UNKNOWN, Origin, crc32c, field, fields, identity
 
 PAGE = 4_096
 CHUNK = 4_072
@@ -39,15 +39,18 @@ def link_of(entries):
     return crc32c(b"".join(fields(*entry) for entry in entries))
 
 
-def head(before=(), setup=SMALL, first=None, total=None, link=None):
-    """The head page of a log with these entries before it, or with other numbers of them."""
-    held = b"HHM-LOG\n" + field(1, 4) + fields(setup.rows, setup.cols)
+def head(before=(), setup=SMALL, first=None, total=None, link=None, origin=UNKNOWN):
+    """The head page of a log with these entries before it, or with other numbers of them.
+
+    It is of version 1 where there is no origin. A log has the book and the window of one.
+    """
+    held = b"HHM-LOG\n" + field(1 if origin is None else 2, 4) + fields(setup.rows, setup.cols)
     held += field(len(setup.cuts), 1) + fields(*setup.cuts) + field(setup.shards, 1)
     held += fields(setup.limit, setup.most)
     held += field(len(before) if first is None else first)
     held += field(sum(entry[3] for entry in before) if total is None else total)
     held += field(link_of(before) if link is None else link, 4)
-    return checked_head(held)
+    return checked_head(held + (b"" if origin is None else identity(origin)))
 
 
 def checked_head(held):
@@ -82,9 +85,9 @@ def block(place, batches):
     return pages_of(place, payload(batches))
 
 
-def log(blocks, before=(), setup=SMALL):
+def log(blocks, before=(), setup=SMALL, origin=UNKNOWN):
     """A log of blocks, each a list of batches, with these entries before it."""
-    held, place = head(before, setup), len(before)
+    held, place = head(before, setup, origin=origin), len(before)
     for batches in blocks:
         held += block(place, batches)
         place += len(batches)
@@ -146,7 +149,8 @@ class Log:
     def read_head(self, held):
         if held[:8] != b"HHM-LOG\n":
             raise LogFault("BadMark", 0)
-        if number_in(held, 8, 4) != 1:
+        version = number_in(held, 8, 4)
+        if version not in (1, 2):
             raise LogFault("BadVersion", 0)
         cuts = held[28]
         end = 29 + 8 * cuts
@@ -158,11 +162,16 @@ class Log:
         )  # fmt: skip
         self.first, self.total = number_in(held, end + 17), number_in(held, end + 25)
         self.link = number_in(held, end + 33, 4)
+        end += 37
+        self.origin = UNKNOWN
+        if version == 2:
+            self.origin = Origin(number_in(held, end, 16), number_in(held, end + 16))
+            end += 24
         if not self.is_in_range():
             raise LogFault("BadHead", 0)
         if number_in(held, PAGE - 4, 4) != crc32c(held[: PAGE - 4]):
             raise LogFault("HeadCheck", 0)
-        if any(held[end + 37 : PAGE - 4]):
+        if any(held[end : PAGE - 4]):
             raise LogFault("BadHead", 0)
 
     def is_in_range(self):
@@ -290,12 +299,26 @@ def check_examples():
     assert one[24:80] == fields(1, 7, 1, 1, 0, 0, 5) and not any(one[80:]) and len(one) == PAGE
     assert other[:24] == bytes.fromhex("511d7306 0ff2 0001 0000000000000001 00000000 00000001")
     assert both[:32] == bytes.fromhex("b4dc6a97 0fef 0001 0000000000000000 00000000 00000001 0000000000000002")
-    assert head()[-4:] == bytes.fromhex("ba8aa704") and head()[:62] == bytes.fromhex(
-        "48484d2d4c4f470a 00000001 0000000000000003 0000000000000003 02 0000000000000002 0000000000000004 02"
-        "0000000000000064 000000000000000a"
-    )
-    assert link_of([entry_of(five)]) == 0xDE345A72 and head([entry_of(five)])[-4:] == bytes.fromhex("5aa3e14d")
-    assert link_of([entry_of(five), entry_of(three)]) == 0xEC6496C9
+    assert link_of([entry_of(five)]) == 0xDE345A72 and link_of([entry_of(five), entry_of(three)]) == 0xEC6496C9
+    check_heads(entry_of(five))
+
+
+def check_heads(entry):
+    """The heads of docs/FORMATS.md, of both versions and with this entry before them."""
+    setup = "0000000000000003 0000000000000003 02 0000000000000002 0000000000000004 02 0000000000000064 000000000000000a"
+    none, one = bytes(20).hex(), "0000000000000001 0000000000000005 de345a72"
+    window = "ffffffffffffffff"
+    unknown, owner = f"{bytes(16).hex()} {window}", f"00112233445566778899aabbccddeeff {window}"
+    for held, version, fields_before, owned, checksum in [
+        (head(origin=None), 1, none, "", "ba8aa704"),
+        (head([entry], origin=None), 1, one, "", "5aa3e14d"),
+        (head(), 2, none, unknown, "9ed95ae1"),
+        (head(origin=OWNED), 2, none, owner, "9ec0e3d8"),
+        (head([entry]), 2, one, unknown, "7ef01ca8"),
+    ]:
+        spelled = bytes.fromhex(f"48484d2d4c4f470a {version:08x} {setup} {fields_before} {owned}")
+        assert len(spelled) == (82 if version == 1 else 106)
+        assert held == spelled.ljust(PAGE - 4, b"\0") + bytes.fromhex(checksum)
 
 
 check_examples()

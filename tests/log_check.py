@@ -18,7 +18,7 @@ from concurrent.futures import ThreadPoolExecutor
 import log_bytes
 from log_bytes import CHUNK, PAGE, SMALL, JoinFault, Log, LogFault, check_line, checked_head, entry_of, head, log, page
 from program import SOME, Case, leave_room, run
-from snap_bytes import NONE, field, fields, snapshot
+from snap_bytes import BOOK, MOST, NONE, OWNED, Origin, field, fields, snapshot, with_byte
 
 FIVE, THREE, NINE = (7, 1, [(0, 0, 5)]), (8, 1, [(0, 0, 3)]), (9, 1, [(2, 1, 4)])
 # A block of it has five pages.
@@ -89,6 +89,31 @@ TAKEN = [
         log([[THREE]], before(FIVE)),
         line(2, 8, 1) + log_line(1, 1, 2, 0),
     ),
+    *[
+        (
+            f"a snapshot of version {version}",
+            snapshot([FIVE], 5, past=NONE, version=version),
+            log([[THREE]], before(FIVE)),
+            line(2, 8, 1) + log_line(1, 1, 2, 0),
+        )
+        for version in (2, 3)
+    ],
+    ("a log of version 1", None, log([[FIVE], [THREE]], origin=None), line(2, 8, 1) + log_line(0, 2, 3, 0)),
+    (
+        "a log of version 1 behind a save",
+        saved(FIVE, THREE),
+        log([[NINE]], before(FIVE, THREE), origin=None),
+        line(3, 12, 2) + log_line(2, 1, 2, 0),
+    ),
+    *[
+        (
+            f"a log with the window {origin.window} of a book",
+            snapshot([FIVE], 5, past=NONE, origin=origin._replace(log=1)),
+            log([[THREE]], before(FIVE), origin=origin),
+            line(2, 8, 1) + log_line(1, 1, 2, 0),
+        )
+        for origin in (OWNED, Origin(BOOK, 0), Origin(2**128 - 1, MOST - 1))
+    ],
     ("a lost byte of the last block", None, with_last(0), line(1, 5, 1) + log_line(0, 1, 2, 1)),
     ("a byte behind the blocks", None, TWO + b"\1", line(2, 8, 1) + log_line(0, 2, 3, 1)),
     ("a batch without cells", None, log([[(1, 1, [])]]), line(1, 0, 0) + log_line(0, 1, 2, 0)),
@@ -107,15 +132,21 @@ def other_page(number=0, pages=1, place=1, kind=1):
 
 
 HEAD_BYTES = head()[: PAGE - 4]
+OWNED_HEAD = head(origin=OWNED)
 
 # A name, the log, and what is wrong with it.
 NO_LOGS = [
     ("no bytes", b"", "Truncated at page 0"),
     ("a head that is cut short", head()[:-1], "Truncated at page 0"),
-    ("another mark", checked_head(b"HHM-LOG\r" + HEAD_BYTES[8:62]), "BadMark at page 0"),
+    ("another mark", checked_head(b"HHM-LOG\r" + HEAD_BYTES[8:106]), "BadMark at page 0"),
     ("a snapshot", saved(FIVE).ljust(PAGE, b"\0"), "BadMark at page 0"),
     ("version 0", checked_head(HEAD_BYTES[:8] + field(0, 4) + HEAD_BYTES[12:]), "BadVersion at page 0"),
-    ("version 2", checked_head(HEAD_BYTES[:8] + field(2, 4) + HEAD_BYTES[12:]), "BadVersion at page 0"),
+    ("version 3", checked_head(HEAD_BYTES[:8] + field(3, 4) + HEAD_BYTES[12:]), "BadVersion at page 0"),
+    (
+        "a version 1 that says a window",
+        checked_head(HEAD_BYTES[:8] + field(1, 4) + HEAD_BYTES[12:]),
+        "BadHead at page 0",
+    ),
     ("no rows", head(setup=SMALL._replace(rows=0)), "BadHead at page 0"),
     ("eight cuts", head(setup=SMALL._replace(cuts=tuple(range(1, 9)))), "BadHead at page 0"),
     ("cuts that don't rise", head(setup=SMALL._replace(cuts=(4, 4))), "BadHead at page 0"),
@@ -126,6 +157,14 @@ NO_LOGS = [
     ("a first place above the most batches", head(first=11), "BadHead at page 0"),
     ("a total above the limit", head(total=101), "BadHead at page 0"),
     ("a byte behind the fields", checked_head(HEAD_BYTES[:-1] + b"\1"), "BadHead at page 0"),
+    ("the first byte behind the window", checked_head(HEAD_BYTES[:106] + b"\1"), "BadHead at page 0"),
+    ("the first byte behind a link of version 1", checked_head(head(origin=None)[:82] + b"\1"), "BadHead at page 0"),
+    ("a byte behind the fields and a wrong check", with_byte(head(), 106, 1), "HeadCheck at page 0"),
+    ("another first byte of the book", with_byte(OWNED_HEAD, 82, 1), "HeadCheck at page 0"),
+    ("another last byte of the book", with_byte(OWNED_HEAD, 97, 0), "HeadCheck at page 0"),
+    ("another first byte of the window", with_byte(OWNED_HEAD, 98, 0), "HeadCheck at page 0"),
+    ("another last byte of the window", with_byte(OWNED_HEAD, 105, 0), "HeadCheck at page 0"),
+    ("the check of another book", OWNED_HEAD[: PAGE - 4] + head()[PAGE - 4 :], "HeadCheck at page 0"),
     ("a wrong check", head()[:-1] + b"\0", "HeadCheck at page 0"),
     ("a first block at another place", head() + B2, "Damaged at page 1"),
     ("a block twice", head() + B1 + B1, "Damaged at page 2"),

@@ -11,10 +11,12 @@ from server import check
 HERE = os.path.dirname(os.path.abspath(__file__))
 CLIENTS = os.path.join(HERE, "..", "clients", "python")
 from hhm_mirror import Mirror  # noqa: E402 (server.py has put the client's folder on the path)
+from hhm_snapshot import read_snapshot  # noqa: E402
 from hosts import Hosts, added, batch, sum_in, until  # noqa: E402
 from peers import Gate, fault_of  # noqa: E402
-from program import snapshot  # noqa: E402
-from server_faults import write  # noqa: E402
+from program import FIVE, NONE, ONE, snapshot  # noqa: E402
+from server_faults import in_folder, write  # noqa: E402
+from snap_bytes import BOOK, MOST, Origin  # noqa: E402
 
 WAIT = 60
 
@@ -298,7 +300,36 @@ def steps_between_sums():
             check(f"sums, {name}: the root", sums([root]), [wanted])
 
 
+def files_of_each_version_are_read():
+    """What hhm_snapshot.py reads of files: their batches, their base, and whose they are."""
+    path, unknown = in_folder("read.snap"), (bytes(16), None, False)
+    book, whole, folded = BOOK.to_bytes(16, "big"), [(7, 1, 1, 5)], bytes(23) + b"\5"
+    for name, held, owner, base in [
+        ("version 1", snapshot(ONE, 5), unknown, b""),
+        ("version 2", snapshot([], 5, past=FIVE, version=2), unknown, folded),
+        ("version 3", snapshot([], 5, past=FIVE, version=3), unknown, folded),
+        ("version 4", snapshot([], 5, past=FIVE), unknown, folded),
+        ("a book", snapshot(ONE, 5, past=NONE, origin=Origin(BOOK)), (book, None, False), b""),
+        ("a window", snapshot(ONE, 5, past=NONE, origin=Origin(BOOK, MOST - 1, 1)), (book, MOST - 1, True), b""),
+    ]:
+        write(path, held)
+        found = read_snapshot(path)
+        check(f"read: {name}: whose", (found.book, found.window, found.has_log), owner)
+        check(f"read: {name}: batches", [it.says() for it in found.batches], whole)
+        check(f"read: {name}: the base", bytes(found.base), base)
+    for name, held, why in [
+        ("version 5", b"HHMSNAP\n\0\0\0\5" + bytes(200), "no snapshot"),
+        ("cut behind the window", snapshot(ONE, 5, past=NONE)[:102], "it ends too early"),
+    ]:
+        write(path, held)
+        try:
+            check(f"read: {name}", read_snapshot(path), why)
+        except ValueError as fault:
+            check(f"read: {name}", str(fault), f"{path}: {why}")
+
+
 def all_are_tried():
+    files_of_each_version_are_read()
     mirrors_are_brought_up()
     mirrors_that_differ_are_told()
     a_mirror_needs_both()

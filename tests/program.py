@@ -16,7 +16,7 @@ import tempfile
 import threading
 from typing import NamedTuple
 
-from snap_bytes import BANNER, MOST, NONE, SIZE, FirstFault, Snapshot, field, snapshot
+from snap_bytes import BANNER, BOOK, MOST, NONE, OWNED, SIZE, FirstFault, Origin, Snapshot, field, snapshot, with_byte
 
 HERE = os.path.dirname(os.path.abspath(__file__))
 SYMMETRIC = "%%MatrixMarket matrix coordinate integer symmetric\n"
@@ -176,8 +176,8 @@ SNAPSHOTS = [
     ),
 ]
 
-# Of versions 2 and 3: the same with nothing folded, one folded batch alone, and one behind which another stands.
-for version in (2, 3):
+# Of versions 2 to 4: the same with nothing folded, one folded batch alone, and one with another batch after it.
+for version in (2, 3, 4):
     SNAPSHOTS += [
         (snapshot(ONE, 5, past=NONE, version=version), "rows 3 cols 3 shards 2 batches 1 total 5 entries 1"),
         (snapshot(TWO, 12, past=NONE, version=version), "rows 3 cols 3 shards 2 batches 2 total 12 entries 3"),
@@ -195,9 +195,15 @@ for version in (2, 3):
         ),
     ]
 
+# Of version 4: books and windows of any number, with a log and without.
+SNAPSHOTS += [
+    (snapshot(ONE, 5, past=NONE, origin=origin), "rows 3 cols 3 shards 2 batches 1 total 5 entries 1")
+    for origin in (OWNED, Origin(BOOK, 0, 1), Origin(2**128 - 1, 1, 1), Origin(1, MOST - 1))
+]
+
 # The snapshot of which each bit is flipped by itself.
 FLIPPED = snapshot([(7, 1, [(0, 0, 5)]), (7, 3, [(0, 1, 0), (2, 2, 4)])], 9, past=NONE)
-assert 8 * len(FLIPPED) == 1_840  # as docs/DEFINITIONS.md says
+assert 8 * len(FLIPPED) == 2_040  # as docs/DEFINITIONS.md says
 
 # Bytes that are no snapshot, and the fault that is told of them.
 NO_SNAPSHOTS = [
@@ -208,7 +214,8 @@ NO_SNAPSHOTS = [
     (snapshot(ONE, 5).replace(b"HHMSNAP\n", b"HHMSNAP\r"), "BadMark"),
     (b"HHMSNAP\n" + field(2, 4), "Truncated"),
     (b"HHMSNAP\n" + field(3, 4), "Truncated"),
-    (b"HHMSNAP\n" + field(4, 4), "BadVersion"),
+    (b"HHMSNAP\n" + field(4, 4), "Truncated"),
+    (b"HHMSNAP\n" + field(5, 4), "BadVersion"),
     (b"HHMSNAP\n" + field(0, 4), "BadVersion"),
     (snapshot(ONE, 5, rows=0), "BadHead"),
     (snapshot(ONE, 5, cuts=(4, 4)), "BadHead"),
@@ -228,7 +235,7 @@ NO_SNAPSHOTS = [
 # One folded batch of total 5, and its base.
 FIVE = ([(7, 1, 1, 5)], [(0, 0, 5)])
 
-# The same of version 3: of the folded entries, of the base, of the batches behind them, and of the checksums. What a
+# The same of version 4: of the folded entries, of the base, of the batches behind them, and of the checksums. What a
 # wrong checksum stands behind is judged before it.
 NO_SNAPSHOTS += [
     (snapshot(ONE, 5, past=NONE)[:-1], "Truncated"),
@@ -247,14 +254,37 @@ NO_SNAPSHOTS += [
     (snapshot([], 5, past=([(7, 1, 1, 5)], [(3, 0, 5)])), "BadBatch"),
     (snapshot([], 5, past=([(7, 1, 1, 5)], [(0, 3, 5)])), "BadBatch"),
     (snapshot([], 5, past=([(7, 1, 2, 5)], [(0, 1, 2), (0, 1, 3)])), "OutOfOrder"),
-    (snapshot(ONE, 5, past=NONE)[:81] + b"\0", "BadCheck"),
-    (snapshot(ONE, 5, past=NONE)[:101], "Truncated"),
+    (snapshot(ONE, 5, past=NONE)[:106] + b"\0", "BadCheck"),
+    (snapshot(ONE, 5, past=NONE)[:126], "Truncated"),
     (snapshot(ONE, 5, past=NONE)[:-1] + b"\0", "BadCheck"),
     (snapshot(ONE, 5, past=NONE)[:-1] + b"\0\0", "BadCheck"),
     (snapshot([(7, 1, [(0, 1, 5)])], 5, past=NONE)[:-4] + snapshot(ONE, 5, past=NONE)[-4:], "BadCheck"),
     (snapshot(ONE, 5, past=NONE)[:-5] + b"\6" + snapshot(ONE, 5, past=NONE)[-4:], "TotalDiffers"),
     (snapshot(ONE, 5, past=NONE, version=2)[:-1], "Truncated"),
     (snapshot([], 5, past=FIVE, version=2) + b"\0", "ExtraBytes"),
+    (snapshot(ONE, 5, past=NONE, version=3)[:81] + b"\0", "BadCheck"),
+    (snapshot([], 5, past=FIVE, version=3) + b"\0", "ExtraBytes"),
+]
+
+# Whose a file is: bytes 78 to 93 are its book, then 8 of its window and one of its log, and then the head's checksum.
+OWNED_ONE = snapshot(ONE, 5, past=NONE, origin=OWNED)
+NO_SNAPSHOTS += [
+    (snapshot(ONE, 5, past=NONE, origin=Origin(log=2)), "BadHead"),
+    (with_byte(OWNED_ONE, 102, 255), "BadHead"),
+    (with_byte(OWNED_ONE, 102, 1), "BadCheck"),
+    (with_byte(OWNED_ONE, 78, 1), "BadCheck"),
+    (with_byte(OWNED_ONE, 93, 0), "BadCheck"),
+    (with_byte(OWNED_ONE, 94, 0), "BadCheck"),
+    (with_byte(OWNED_ONE, 101, 0), "BadCheck"),
+    # A total above the limit comes before the log's byte, and that before a checksum that isn't there.
+    (snapshot(ONE, 5, limit=4, past=NONE, origin=Origin(log=2)), "BadHead"),
+    (snapshot(ONE, 5, past=NONE, origin=Origin(log=2))[:103], "BadHead"),
+    (OWNED_ONE[:102], "Truncated"),
+    (OWNED_ONE[:103], "Truncated"),
+    # The checksums of one file in another, and a file of one version that says another.
+    (OWNED_ONE[:103] + snapshot(ONE, 5, past=NONE)[103:], "BadCheck"),
+    (with_byte(snapshot(ONE, 5, past=NONE, version=3), 11, 4), "BadCheck"),
+    (with_byte(OWNED_ONE, 11, 3), "BadCheck"),
 ]
 
 # Command lines that are not read.
@@ -488,6 +518,17 @@ FOLDS = [
     (snapshot(ONE, 5), "folded 1 total 5", snapshot([], 5, past=FIVE)),
     (snapshot(ONE, 5, past=NONE), "folded 1 total 5", snapshot([], 5, past=FIVE)),
     (snapshot([], 5, past=FIVE), "folded 1 total 5", snapshot([], 5, past=FIVE)),
+    # Older versions are written as version 4; who a file belongs to, and its log, stay.
+    *[
+        (held, "folded 1 total 5", snapshot([], 5, past=FIVE))
+        for version in (2, 3)
+        for held in (snapshot(ONE, 5, past=NONE, version=version), snapshot([], 5, past=FIVE, version=version))
+    ],
+    *[
+        (held, "folded 1 total 5", snapshot([], 5, past=FIVE, origin=origin))
+        for origin in (OWNED, Origin(BOOK, 7, 1), Origin(0, 0, 1))
+        for held in (snapshot(ONE, 5, past=NONE, origin=origin), snapshot([], 5, past=FIVE, origin=origin))
+    ],
     (snapshot([], 0), "folded 0 total 0", snapshot([], 0, past=NONE)),
     (
         snapshot(TWO, 12),

@@ -436,8 +436,8 @@ def answers_stay_when_folded():
     for time in ["once", "again"]:
         check(f"fold {time}", program("fold", path), ("folded 2 total 12\n", "", 0))
         check(f"check when folded {time}", program("check", path), unfolded)
-    # The head has 78 bytes, each entry 32, each cell of the base 24, each checksum 4.
-    check("bytes of a folded snapshot", os.path.getsize(path), 78 + 4 + 8 + 2 * 32 + 8 + 3 * 24 + 4)
+    # The head has 103 bytes, each entry 32, each cell of the base 24, each checksum 4.
+    check("bytes of a folded snapshot", os.path.getsize(path), 103 + 4 + 8 + 2 * 32 + 8 + 3 * 24 + 4)
     with Server(words) as server:
         check("answers of folded batches", server.talk([b"".join(QUESTIONS)]), before)
         with server.client(9) as hhm:

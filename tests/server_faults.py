@@ -344,7 +344,7 @@ def flipped_bits_are_told():
     path = in_folder("flipped.snap")
     held = program.snapshot([(7, 1, [(0, 0, 5)])], 5, past=program.NONE)
     words = ["--unix", in_folder("unused"), *SMALL, "--snapshot", path]
-    for name, place, bit in [("rows", 19, 1 << 4), ("shards", 45, 1 << 0), ("client", 109, 1)]:
+    for name, place, bit in [("rows", 19, 1 << 4), ("shards", 45, 1 << 0), ("client", 134, 1)]:
         other = bytearray(held)
         other[place] ^= bit
         write(path, other)

@@ -21,9 +21,10 @@ import traceback
 import log_bytes
 import program
 import server
-from log_bytes import Log, block, entry_of, field, fields, head, log, pages_of
+from log_bytes import Log, block, entry_of, fields, head, log, pages_of
 from server import SMALL, WAIT, Server, accepted, check, content, put_frame, refused, text
 from server_faults import OTHER, SAVE, STATUS, STOP, STOPPING, asked, counts, in_folder, write
+from snap_bytes import OWNED, with_byte
 
 FIVE, THREE, TWO = (7, 1, [(0, 0, 5)]), (8, 1, [(0, 0, 3)]), (9, 1, [(0, 0, 2)])
 STORED = struct.pack(">IB", 0, 9)
@@ -246,10 +247,6 @@ def a_torn_end_is_cut_off():
         check(f"{size} bytes: both at last", started("--log", path), stopped(2, 8))
 
 
-def changed(held, place, byte):
-    return held[:place] + bytes([byte]) + held[place + 1 :]
-
-
 def bad_block(held):
     return log([[FIVE]]) + pages_of(1, held)
 
@@ -257,15 +254,17 @@ def bad_block(held):
 # Bytes that are no log, and what is told of them.
 NO_LOGS = [
     (b"HHMSNAP\n" + head()[8:], "BadMark at page 0"),
-    (changed(head(), 11, 2), "BadVersion at page 0"),
-    (changed(head(), 19, 0), "BadHead at page 0"),
+    (with_byte(head(), 11, 3), "BadVersion at page 0"),
+    (with_byte(head(), 19, 0), "BadHead at page 0"),
     (head(first=11), "BadHead at page 0"),
     (head(total=101), "BadHead at page 0"),
-    (changed(head(), 4095, 0), "HeadCheck at page 0"),
-    (changed(log([[FIVE]]), 60, 0x20), "HeadCheck at page 0"),
+    (with_byte(head(), 4095, 0), "HeadCheck at page 0"),
+    (with_byte(log([[FIVE]]), 60, 0x20), "HeadCheck at page 0"),
+    (with_byte(log([[FIVE]]), 82, 1), "HeadCheck at page 0"),
+    (log_bytes.checked_head(head()[:106] + b"\1"), "BadHead at page 0"),
     (head() + block(0, [FIVE]) + block(0, [FIVE]), "Damaged at page 2"),
     (head() + block(1, [FIVE]), "Damaged at page 1"),
-    (changed(log([[FIVE], [THREE]]), 2 * PAGE + 79, 2), "Damaged at page 2"),
+    (with_byte(log([[FIVE], [THREE]]), 2 * PAGE + 79, 2), "Damaged at page 2"),
     (log([[FIVE], [THREE]]) + bytes(PAGE) + block(3, [TWO]), "Damaged at page 4"),
     (bad_block(fields(0)), "BadBlock at page 2"),
     (bad_block(fields(1, 8, 1, 1, 3, 0, 3)), "BadBlock at page 2"),
@@ -286,11 +285,11 @@ def damage_is_told_and_stays():
     # A flipped bit of a block that another stands behind, and a byte of the last one that is lost.
     whole, told = log([[FIVE], [THREE]]), []
     for place in [PAGE, PAGE + 5, PAGE + 12, PAGE + 31, PAGE + 79, PAGE + 80, 2 * PAGE - 1]:
-        write(path, changed(whole, place, whole[place] ^ 1))
+        write(path, with_byte(whole, place, whole[place] ^ 1))
         output, error, status = started("--log", path)
         told.append((output, error, status) in [("", f"hhm: log: Damaged at page {page}\n", 3) for page in (1, 2)])
     check("flipped bits", told, [True] * 7)
-    write(path, changed(whole, 2 * PAGE + 79, 0))
+    write(path, with_byte(whole, 2 * PAGE + 79, 0))
     lines = log_bytes.check_line([FIVE]) + "\nlog first 0 batches 1 pages 2 rest 1\n"
     check("a byte that is lost: check", hhm("check", none, "--log", path), (lines, "", 0))
     check("a byte that is lost", started("--log", path), stopped(1, 5))
@@ -381,6 +380,52 @@ def a_fold_between_two_starts():
     lines = "rows 3 cols 3 shards 2 batches 3 total 10 entries 1\nlog first 2 batches 1 pages 2 rest 0\n"
     check("check of both", hhm("check", snap, "--log", path), (lines, "", 0))
     check("a start on both", started("--snapshot", snap, "--log", path), stopped(3, 10))
+
+
+def an_old_log_goes_on():
+    """Blocks are added to a log of version 1, whose head stays, and a start reads all; the next log is of version 2."""
+    path, snap = in_folder("old.log"), in_folder("old.snap")
+    old = log([[FIVE]], origin=None)
+    write(path, old)
+    with Server([*SMALL, "--log", path], tcp=False) as at:
+        with at.link() as link:
+            check("an old log: its batch again", asked(link, put_of(FIVE), 21), accepted(0, 5))
+            check("an old log: put", asked(link, put_of(THREE), 21), accepted(1, 8))
+        kill(at)
+    check("an old log: with a block more", in_log(path), old + block(1, [THREE]))
+    lines = log_bytes.check_line([FIVE, THREE]) + "\nlog first 0 batches 2 pages 3 rest 0\n"
+    check("an old log: check", hhm("check", snap, "--log", path), (lines, "", 0))
+    check("an old log: a start", started("--log", path), stopped(2, 8))
+    check("an old log: as before", in_log(path), old + block(1, [THREE]))
+    check("an old log: a save", started("--snapshot", snap, "--log", path), stopped(2, 8))
+    check("an old log: begun anew", in_log(path), head(BOTH))
+    check("an old log: what was saved", content(snap), snapshot_of([FIVE, THREE]))
+
+
+def files_of_all_versions_are_saved_in_the_last():
+    """A server loads a snapshot of each version, beside a log of version 1 too, and saves it in version 4."""
+    all_folded = program.snapshot([], 5, past=program.FIVE)
+    files = [(program.snapshot([FIVE], 5), snapshot_of([FIVE]))]
+    for version in (2, 3):
+        files.append((program.snapshot([FIVE], 5, past=program.NONE, version=version), snapshot_of([FIVE])))
+        files.append((program.snapshot([], 5, past=program.FIVE, version=version), all_folded))
+    # So far a server doesn't keep whose a file is.
+    files.append((program.snapshot([FIVE], 5, past=program.NONE, origin=OWNED), snapshot_of([FIVE])))
+    for n, (held, anew) in enumerate(files):
+        path, snap, name = in_folder(f"version {n}.log"), in_folder(f"version {n}.snap"), f"file {n}"
+        write(snap, held)
+        with Server([*SMALL, "--snapshot", snap], tcp=False) as at:
+            with at.link() as link:
+                check(f"{name}: save", asked(link, SAVE, 13), saved(1))
+            check(f"{name}: saved anew", content(snap), anew)
+            kill(at)
+        write(snap, held)
+        write(path, log([[THREE]], [entry_of(FIVE)], origin=None))
+        check(f"{name}: with a log", started("--snapshot", snap, "--log", path), stopped(2, 8))
+        check(f"{name}: the log", in_log(path), head(BOTH))
+        both = program.Snapshot(content(snap))
+        check(f"{name}: both", both.line(), log_bytes.check_line([FIVE, THREE]))
+        check(f"{name}: its version", both.version, 4)
 
 
 def a_second_server_is_told():
@@ -526,6 +571,8 @@ def all_are_tried():
         a_lost_snapshot_is_a_gap,
         logs_beside_longer_and_shorter_snapshots,
         a_fold_between_two_starts,
+        an_old_log_goes_on,
+        files_of_all_versions_are_saved_in_the_last,
         a_second_server_is_told,
         what_is_no_file_is_told,
         links_are_followed_once,

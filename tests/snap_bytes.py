@@ -4,6 +4,7 @@ wrong with them.
 For the scripts beside it. Nothing here comes from the program, so that what it writes and reports can be judged by it.
 """
 import itertools
+from typing import NamedTuple
 
 BANNER = "%%MatrixMarket matrix coordinate integer general\n"
 MOST = 2**64 - 1
@@ -18,6 +19,11 @@ def field(value, size=8):
 def fields(*values):
     """Fields of eight bytes."""
     return b"".join(field(value) for value in values)
+
+
+def with_byte(held, place, byte):
+    """These bytes with another one at a place."""
+    return held[:place] + bytes([byte]) + held[place + 1 :]
 
 
 def table_entry(value):
@@ -41,9 +47,30 @@ def crc32c(held, before=0):
 assert crc32c(b"123456789") == 0xE3069283 and crc32c(bytes(32)) == 0x8A9136AA
 
 
+class Origin(NamedTuple):
+    """Whose a file is: a book of 128 bits, a window of it, and 1 where a log goes with the file."""
+
+    book: int = 0
+    window: int = MOST
+    log: int = 0
+
+
+# A book that isn't known, no window and no log: what files of older versions say, and those that the program makes.
+UNKNOWN = Origin()
+# The book of the examples of docs/FORMATS.md.
+BOOK = 0x00112233445566778899AABBCCDDEEFF
+OWNED = Origin(BOOK)
+
+
+def identity(origin):
+    """The fields of a book and of a window."""
+    return field(origin.book, 16) + field(origin.window)
+
+
 def snapshot(
-    batches, total, rows=3, cols=3, cuts=(2, 4), shards=2, limit=100, most=10, count=None, past=None, version=3
-):
+    batches, total, rows=3, cols=3, cuts=(2, 4), shards=2, limit=100, most=10, count=None, past=None, version=4,
+    origin=UNKNOWN,
+):  # fmt: skip
     """The bytes of a snapshot: of version 1, or of `version` where `past` has folded entries and the base's cells.
 
     A batch is its client, its number and its cells; a cell is a row, a column, a count. A folded entry is its client,
@@ -52,6 +79,8 @@ def snapshot(
     version = 1 if past is None else version
     head = b"HHMSNAP\n" + field(version, 4) + fields(rows, cols) + field(len(cuts), 1) + fields(*cuts)
     head += field(shards, 1) + fields(limit, most, len(batches) if count is None else count, total)
+    if version >= 4:
+        head += identity(origin) + field(origin.log, 1)
     parts = [head]
     if past is not None:
         folded, base = past
@@ -60,14 +89,17 @@ def snapshot(
         fields(client, number, len(cells)) + b"".join(fields(*cell) for cell in cells)
         for client, number, cells in batches
     ]
+    return checked_parts(parts) if version >= 3 else b"".join(parts)
+
+
+def checked_parts(parts):
+    """The parts of a file, each with the checksum of all bytes before it."""
     held, value = bytearray(), 0
     for part in parts:
-        held += part
-        if version == 3:
-            value = crc32c(part, value)
-            check = field(value, 4)
-            value = crc32c(check, value)
-            held += check
+        value = crc32c(part, value)
+        check = field(value, 4)
+        value = crc32c(check, value)
+        held += part + check
     return bytes(held)
 
 
@@ -112,8 +144,8 @@ class Snapshot:
         return value
 
     def check(self):
-        """The checksum of all bytes before it, in version 3."""
-        if self.version == 3:
+        """The checksum of all bytes before it, from version 3 on."""
+        if self.version >= 3:
             due = crc32c(self.held[: self.at])
             self.take("checksum", 4, lambda value: value == due, "BadCheck")
 
@@ -122,7 +154,7 @@ class Snapshot:
             return self.take(name, size, lambda value: least <= value <= most, "BadHead")
 
         self.take("mark", 8, lambda value: field(value) == b"HHMSNAP\n", "BadMark")
-        self.version = self.take("version", 4, lambda value: value in (1, 2, 3), "BadVersion")
+        self.version = self.take("version", 4, lambda value: value in (1, 2, 3, 4), "BadVersion")
         self.rows, self.cols = setting("rows", 1, SIZE), setting("cols", 1, SIZE)
         cut = 0
         for _ in range(setting("cuts", 0, 7, 1)):
@@ -132,6 +164,12 @@ class Snapshot:
         self.most = setting("most", 1, 1_000_000)
         self.count = setting("batches", 0, self.most)
         self.total = setting("total", 0, limit)
+        self.origin = self.owner() if self.version >= 4 else UNKNOWN
+
+    def owner(self):
+        """Whose the file is."""
+        book, window = self.take("book", 16, lambda _: True), self.take("window", 8, lambda _: True)
+        return Origin(book, window, self.take("log", 1, lambda value: value in (0, 1), "BadHead"))
 
     def pair(self):
         client = self.take("client", 8, lambda _: True)
@@ -178,3 +216,37 @@ class Snapshot:
             f"rows {self.rows} cols {self.cols} shards {self.shards} "
             f"batches {self.folded + self.count} total {self.total} entries {len(self.places)}"
         )
+
+
+def check_examples():
+    """The example of docs/FORMATS.md in each version, and its checksums with other origins."""
+    one = [(7, 1, [(0, 0, 5)])]
+    fields_of_head = "0000000000000003 0000000000000003 02 0000000000000002 0000000000000004" \
+        "02 0000000000000064 000000000000000a 0000000000000001 0000000000000005"
+    batch = "0000000000000007 0000000000000001 0000000000000001 0000000000000000 0000000000000000 0000000000000005"
+    none, owner = bytes(16).hex(), "00112233445566778899aabbccddeeff ffffffffffffffff 00"
+    mark = "48484d534e41500a"
+    for held, wanted in [
+        (snapshot(one, 5), f"{mark} 00000001 {fields_of_head} {batch}"),
+        (snapshot(one, 5, past=NONE, version=2), f"{mark} 00000002 {fields_of_head} {none} {batch}"),
+        (
+            snapshot(one, 5, past=NONE, version=3),
+            f"{mark} 00000003 {fields_of_head} 163ee4f6 {none} d0540e0d {batch} 5ed02458",
+        ),
+        (
+            snapshot(one, 5, past=NONE, origin=OWNED),
+            f"{mark} 00000004 {fields_of_head} {owner} 3864c250 {none} 96dd6b0d {batch} 11821650",
+        ),
+    ]:
+        assert held == bytes.fromhex(wanted)
+    for origin, checks in [
+        (OWNED, "3864c250 96dd6b0d 11821650"),
+        (OWNED._replace(log=1), "ca0f4153 a12c3b5e 79b4082c"),
+        (UNKNOWN, "d38776cd 514e0200 be3bb496"),
+    ]:
+        held = snapshot(one, 5, past=NONE, origin=origin)
+        assert len(held) == 179
+        assert b"".join(held[at : at + 4] for at in (103, 123, 175)) == bytes.fromhex(checks)
+
+
+check_examples()

@@ -7,6 +7,9 @@ import mmap
 import struct
 from typing import Any, List, NamedTuple, Optional, Tuple
 
+# What a file says where it is of a whole book.
+NO_WINDOW = 2**64 - 1
+
 
 class Batch(NamedTuple):
     """A batch: its two numbers, how many cells it has, their total, and its cells; none where it is folded."""
@@ -27,12 +30,19 @@ class Batch(NamedTuple):
 
 class Snapshot(NamedTuple):
     """The numbers of rows and columns, the batches in order of acceptance, and the cells of the sum of those that are
-    folded, which are the first of them."""
+    folded, which are the first of them.
+
+    And whose the file is: the 16 bytes of its book, all 00 where it isn't known, a window of it, or none, and whether a
+    log goes with the file. Versions before 4 don't say that.
+    """
 
     rows: int
     cols: int
     batches: List[Batch]
     base: memoryview
+    book: bytes = bytes(16)
+    window: Optional[int] = None
+    has_log: bool = False
 
 
 class Fields:
@@ -69,12 +79,13 @@ def read_snapshot(path: str) -> Snapshot:
 
 def parsed(file: Fields) -> Snapshot:
     mark, version = file.take("8sI")
-    if mark != b"HHMSNAP\n" or not 1 <= version <= 3:
+    if mark != b"HHMSNAP\n" or not 1 <= version <= 4:
         raise ValueError(f"{file.path}: no snapshot")
-    check = 4 if version == 3 else 0
+    check = 4 if version >= 3 else 0
     rows, cols, cuts = file.take("QQB")
     file.bytes(8 * cuts + 1)
     _, _, unfolded, _ = file.take("QQQQ")
+    book, window, has_log = file.take("16sQ?") if version >= 4 else (bytes(16), NO_WINDOW, False)
     file.bytes(check)
     batches, base = [], file.bytes(0)
     if version > 1:
@@ -90,4 +101,4 @@ def parsed(file: Fields) -> Snapshot:
         batches.append(Batch(client, number, entries, total_of(cells), cells))
     if file.at != len(file.data):
         raise ValueError(f"{file.path}: {len(file.data) - file.at} bytes too many")
-    return Snapshot(rows, cols, batches, base)
+    return Snapshot(rows, cols, batches, base, book, None if window == NO_WINDOW else window, has_log)
