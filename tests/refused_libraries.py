@@ -193,7 +193,7 @@ SCENARIOS = {
     ],
     "snapshot": [
         Step([["read refused"]], ["read folded 1 batches 1"]),
-        Step([["write refused behind bytes 0", "written in part, bytes 0"]], ["written whole, bytes 210"]),
+        Step([["write refused behind bytes 0", "written in part, bytes 0"]], ["written whole, bytes 235"]),
         Step([["save refused: memory"]], ["saved"]),
         Step([["load refused"]], ["loaded folded 1 batches 1"]),
     ],
