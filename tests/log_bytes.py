@@ -7,7 +7,7 @@ total of a batch.
 """
 from typing import NamedTuple
 
-from snap_bytes import MOST, OWNED, SIZE, UNKNOWN, Origin, crc32c, field, fields, identity
+from snap_bytes import MOST, OWNED, SIZE, UNKNOWN, crc32c, field, fields, identity
 
 PAGE = 4_096
 CHUNK = 4_072
@@ -162,16 +162,12 @@ class Log:
         )  # fmt: skip
         self.first, self.total = number_in(held, end + 17), number_in(held, end + 25)
         self.link = number_in(held, end + 33, 4)
-        end += 37
-        self.origin = UNKNOWN
-        if version == 2:
-            self.origin = Origin(number_in(held, end, 16), number_in(held, end + 16))
-            end += 24
         if not self.is_in_range():
             raise LogFault("BadHead", 0)
         if number_in(held, PAGE - 4, 4) != crc32c(held[: PAGE - 4]):
             raise LogFault("HeadCheck", 0)
-        if any(held[end : PAGE - 4]):
+        # In version 2 a book and a window come after the link, and any will do.
+        if any(held[end + (37 if version == 1 else 61) : PAGE - 4]):
             raise LogFault("BadHead", 0)
 
     def is_in_range(self):

@@ -114,6 +114,12 @@ TAKEN = [
         )
         for origin in (OWNED, Origin(BOOK, 0), Origin(2**128 - 1, MOST - 1))
     ],
+    (
+        "a log of another book, which is not compared so far",
+        snapshot([FIVE], 5, past=NONE, origin=OWNED),
+        log([[THREE]], before(FIVE), origin=Origin(1, 2)),
+        line(2, 8, 1) + log_line(1, 1, 2, 0),
+    ),
     ("a lost byte of the last block", None, with_last(0), line(1, 5, 1) + log_line(0, 1, 2, 1)),
     ("a byte behind the blocks", None, TWO + b"\1", line(2, 8, 1) + log_line(0, 2, 3, 1)),
     ("a batch without cells", None, log([[(1, 1, [])]]), line(1, 0, 0) + log_line(0, 1, 2, 0)),

@@ -164,12 +164,10 @@ class Snapshot:
         self.most = setting("most", 1, 1_000_000)
         self.count = setting("batches", 0, self.most)
         self.total = setting("total", 0, limit)
-        self.origin = self.owner() if self.version >= 4 else UNKNOWN
-
-    def owner(self):
-        """Whose the file is."""
-        book, window = self.take("book", 16, lambda _: True), self.take("window", 8, lambda _: True)
-        return Origin(book, window, self.take("log", 1, lambda value: value in (0, 1), "BadHead"))
+        if self.version >= 4:
+            self.take("book", 16, lambda _: True)
+            self.take("window", 8, lambda _: True)
+            setting("log", 0, 1, 1)
 
     def pair(self):
         client = self.take("client", 8, lambda _: True)
