@@ -301,7 +301,8 @@ def check_examples():
 
 def check_heads(entry):
     """The heads of docs/FORMATS.md, of both versions and with this entry before them."""
-    setup = "0000000000000003 0000000000000003 02 0000000000000002 0000000000000004 02 0000000000000064 000000000000000a"
+    setup = "0000000000000003 0000000000000003 02 0000000000000002 0000000000000004" \
+        "02 0000000000000064 000000000000000a"
     none, one = bytes(20).hex(), "0000000000000001 0000000000000005 de345a72"
     window = "ffffffffffffffff"
     unknown, owner = f"{bytes(16).hex()} {window}", f"00112233445566778899aabbccddeeff {window}"
