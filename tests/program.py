@@ -176,7 +176,7 @@ SNAPSHOTS = [
     ),
 ]
 
-# Of versions 2 to 4: the same with nothing folded, one folded batch alone, and one with another batch after it.
+# The same in versions 2 to 4: with nothing folded, one folded batch alone, and one with another batch after it.
 for version in (2, 3, 4):
     SNAPSHOTS += [
         (snapshot(ONE, 5, past=NONE, version=version), "rows 3 cols 3 shards 2 batches 1 total 5 entries 1"),
@@ -195,7 +195,7 @@ for version in (2, 3, 4):
         ),
     ]
 
-# Of version 4: books and windows of any number, with a log and without.
+# In version 4, books and windows of any number, with a log and without.
 SNAPSHOTS += [
     (snapshot(ONE, 5, past=NONE, origin=origin), "rows 3 cols 3 shards 2 batches 1 total 5 entries 1")
     for origin in (OWNED, Origin(BOOK, 0, 1), Origin(2**128 - 1, 1, 1), Origin(1, MOST - 1))
@@ -235,8 +235,8 @@ NO_SNAPSHOTS = [
 # One folded batch of total 5, and its base.
 FIVE = ([(7, 1, 1, 5)], [(0, 0, 5)])
 
-# The same of version 4: of the folded entries, of the base, of the batches behind them, and of the checksums. What a
-# wrong checksum stands behind is judged before it.
+# The same of version 4: of the folded entries, of the base, of the batches after them, and of the checksums. The
+# bytes before a wrong checksum are judged before it.
 NO_SNAPSHOTS += [
     (snapshot(ONE, 5, past=NONE)[:-1], "Truncated"),
     (snapshot(ONE, 5, past=NONE) + b"\0", "ExtraBytes"),

@@ -21,13 +21,13 @@ def fields(*values):
     return b"".join(field(value) for value in values)
 
 
-def with_byte(held, place, byte):
-    """These bytes with another one at a place."""
-    return held[:place] + bytes([byte]) + held[place + 1 :]
+def with_byte(held, offset, byte):
+    """These bytes with another one at an offset."""
+    return held[:offset] + bytes([byte]) + held[offset + 1 :]
 
 
 def table_entry(value):
-    """What a byte becomes with eight bits behind it, by the polynomial 1EDC6F41 with its bits turned round."""
+    """The remainder of a byte and eight bits after it, by the polynomial 1EDC6F41 with its bits reversed."""
     for _ in range(8):
         value = value >> 1 ^ (0x82F63B78 if value & 1 else 0)
     return value
@@ -37,7 +37,7 @@ CRC_TABLE = [table_entry(value) for value in range(256)]
 
 
 def crc32c(held, before=0):
-    """The checksum of RFC 3720, of these bytes behind those that have the checksum `before`."""
+    """The checksum of RFC 3720, of these bytes after those with the checksum `before`."""
     value = before ^ 2**32 - 1
     for byte in held:
         value = value >> 8 ^ CRC_TABLE[(value ^ byte) & 0xFF]
