@@ -256,7 +256,7 @@ def names_keep_their_numbers():
 
 
 def a_refused_load_writes_no_names():
-    """Names of other events under a used number aren't in the table; IPv6 that the server has no room for is told."""
+    """Names of other events under a used number aren't in the table; IPv6 without room on the server is refused."""
     names, given = path_of("kept.names"), ["--cols", "1,2", "--map", "name", "--names", path_of("kept.names")]
     with Server(LARGE, tcp=False) as at:
         check("names", load(at, *given, 610, written("kept.csv", "a,b\n"))[2], 0)

@@ -23,7 +23,7 @@ EXAMPLES = os.path.join(server.HERE, "..", "examples")
 
 
 class Text:
-    """A text in place of a file."""
+    """A text read as a file."""
 
     def __init__(self, text):
         self.path, self.text = "f", io.StringIO(text, newline="")

@@ -106,7 +106,7 @@ class Block:
         return (rows, Span(cols[0].first, cols[-1].last)) if cols else ([], Span(0, 0))
 
     def of_server(self, hhm: Client, most: int) -> Iterator[Cell]:
-        """These cells of a server, page by page, of so many each."""
+        """These cells of a server, page by page."""
         is_whole = self.rows is None or self.cols is None
         rows, cols = self.sides(hhm.size() if is_whole else (0, 0))
         for span in rows:

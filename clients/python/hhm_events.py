@@ -30,7 +30,7 @@ from hhm_heads import (
 FORMATS = ("csv", "tsv", "mtx", "pairs", "nfdump", "zeek")
 # The formats whose rows and columns are addresses where nothing else is said.
 OF_ADDRESSES = ("csv", "tsv", "nfdump", "zeek")
-# A share of bad lines is judged once so many lines were read; and how many of the bad lines are shown.
+# The lines after which a share of bad lines is judged, and the number of bad lines that are shown.
 ENOUGH, SHOWN = 1_000, 5
 MOST = (1 << 64) - 1
 # A count as spreadsheets and programs of floats write it.
@@ -68,7 +68,7 @@ class Limit(NamedTuple):
         return cls(0.0, int(word))
 
     def is_passed(self, bad: int, lines: int, at_end: bool) -> bool:
-        """Whether so many bad lines of all are too many. A share is looked at from enough lines on."""
+        """Whether these bad lines are too many. A share is judged once enough lines were read."""
         if not bad or bad <= self.count:
             return False
         return not self.share or (bad > self.share * lines and (at_end or lines >= ENOUGH))
@@ -103,7 +103,7 @@ class Tally:
         return "\n".join(self.shown + more)
 
 
-# What words mean. Each of these gives the numbers of words, and adds to a set the places of words that mean none.
+# What words mean. Each of these gives the numbers of words, and adds to a set the indices of words that mean none.
 
 
 def whole_of(word: str) -> int:
@@ -259,7 +259,7 @@ class Source:
 
 
 def format_of(path: str) -> str:
-    """The format that a file's name tells. An Ended where it tells none."""
+    """The format that a file's name says. An Ended where it says none."""
     name = path[:-3] if path.endswith(".gz") else path
     ending = name.rpartition(".")[2]
     if ending in FORMATS:
@@ -333,7 +333,7 @@ class Shape(NamedTuple):
         return map(methodcaller("count", self.separator), lines)
 
     def unfit(self, lines: List[str], width: int) -> List[int]:
-        """The places of the plain lines that have another number of words."""
+        """The indices of the plain lines that have another number of words."""
         wanted = width if self.separator is None else width - 1
         if set(self.widths(lines)) == {wanted} and width > 1:
             return []
@@ -342,7 +342,7 @@ class Shape(NamedTuple):
         return sorted({*unfit, *blank})
 
     def columns(self, text: str, width: int, places: Sequence[int]) -> List[List[str]]:
-        """The words at some places of each of some plain lines, which have so many words."""
+        """The words in some columns of some plain lines, which have the same number of words."""
         if self.separator is None:
             words = text.split()
         else:
@@ -451,14 +451,14 @@ class Events:
             raise Ended(3, f"{self.source.path}: {self.found} entries, and its head tells {self.told}")
 
     def next_batch(self, number: int, most: int) -> Optional[Batch]:
-        """The next events, so many unless the file ends before; None where there is none."""
+        """The next events, fewer only where the file ends; None where there is none."""
         batch = Batch(number, self.source.path, [], [])
         while len(batch.lines) < most and (more := self.next_events(number, most - len(batch.lines))):
             batch = joined(batch, more)
         return batch if batch.lines else None
 
     def next_events(self, number: int, most: int) -> Optional[Batch]:
-        """The events of the next lines, of so many; None where there is no line."""
+        """The events of the next lines; None where there is no line."""
         first = self.lines.number + 1
         lines = self.lines.take(most)
         text = "".join(lines).replace("\r\n", "\n")
@@ -513,7 +513,7 @@ class Events:
         return Batch(number, self.source.path, [array.array("Q", part) for part in parts], lines)
 
     def read(self, columns: List[List[str]]) -> Tuple[Set[int], List[List[int]]]:
-        """The places of the lines that are no events, and the rows, columns and counts of all others. Counts are read
+        """The indices of the lines that are no events, and the rows, columns and counts of all others. Counts are read
         first, so that no name gets a number by a line without a count."""
         without_count: Set[int] = set()
         counts = [self.counts(words, without_count) for words in columns[2:]] or [[1] * len(columns[0])]
@@ -591,7 +591,7 @@ def is_summary(words: List[str], head: List[str]) -> bool:
 
 
 def without(places: Collection[int], lists: Sequence[Sequence[Any]]) -> List[Sequence[Any]]:
-    """Some lists without what is at these places."""
+    """Some lists without the items at these indices."""
     if not places:
         return list(lists)
     kept = bytearray(b"\1") * len(lists[0])

@@ -38,7 +38,7 @@ WANTED = ("give --cols with the columns of the row, the column and, if there is 
 
 class Columns(NamedTuple):
     """Where in a row of words the row, the column and, if anywhere, the counts of an event are, and how many words it
-    has; None where that is any number. `names` is how they are told."""
+    has; None where that is any number. `names` says how messages name them."""
 
     row: int
     col: int
@@ -70,7 +70,7 @@ class Wanted(NamedTuple):
         return names
 
     def places(self) -> Optional[List[int]]:
-        """The places of --cols, from 0; None where it has names, or isn't given. An Ended where they are wrong."""
+        """The indices of --cols, from 0; None where it has names, or isn't given. An Ended where they are wrong."""
         names = self.names()
         if not names or not all(DIGITS.fullmatch(name) for name in names):
             return None
@@ -83,7 +83,7 @@ class Wanted(NamedTuple):
 
 
 def at_places(places: Sequence[int], width: Optional[int], head: Sequence[str] = ()) -> Columns:
-    """The columns at places: the row, the column and the counts."""
+    """The columns by indices: the row, the column and the counts."""
     names = tuple(head[place] if head else str(place + 1) for place in places)
     return Columns(places[0], places[1], tuple(places[2:]), width, names)
 
@@ -93,7 +93,7 @@ def plain_name(name: str) -> str:
 
 
 def the_one(path: str, head: Sequence[str], known: FrozenSet[str], what: str) -> Optional[int]:
-    """The place of the one column that has a known name; None where none has. An Ended where several have."""
+    """The index of the one column that has a known name; None where none has. An Ended where several have."""
     found = [place for place, name in enumerate(head) if plain_name(name) in known]
     if len(found) > 1:
         raise Ended(2, f"{path}: {what} may be {' or '.join(repr(head[it]) for it in found)}: {WANTED}")
@@ -101,7 +101,7 @@ def the_one(path: str, head: Sequence[str], known: FrozenSet[str], what: str) ->
 
 
 def value_at(path: str, head: Sequence[str], value: str) -> int:
-    """The place of a value: a column's own name, or packets, bytes or flows. An Ended where there is none."""
+    """The index of a value: a column's own name, or packets, bytes or flows. An Ended where there is none."""
     if value in head:
         return head.index(value)
     place = the_one(path, head, VALUES.get(value, frozenset()), f"--value {value}")
@@ -146,7 +146,7 @@ class Found(NamedTuple):
 
 
 def without_head(line: str, places: List[int], separators: str) -> Found:
-    """Columns by places. The separator is the first one that gives the first line enough words."""
+    """Columns by indices. The separator is the first one that gives the first line enough words."""
     fitting = (it for it in separators if len(words_of(line, it)) > max(places))
     return Found(at_places(places, None), next(fitting, separators[0]), [])
 

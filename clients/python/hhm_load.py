@@ -303,7 +303,7 @@ class Load:
         return events
 
     def say(self, words: str) -> None:
-        """Writes a line on standard error, in place of that of the progress."""
+        """Writes a line on standard error, over the line of the progress."""
         self.progress.clear()
         print(words, file=sys.stderr, flush=True)
 
@@ -342,7 +342,7 @@ class Load:
             self.new += 1
 
     def puts(self, value: int, batches: Iterator[Batch]) -> Iterator[int]:
-        """Puts a value of batches to its server, and gives their places there."""
+        """Puts a value of batches to its server, and gives their indices there."""
         hhm = self.servers[value]
         try:
             for _, accepted in hhm.put_all((batch.number, batch.cells(value)) for batch in batches):

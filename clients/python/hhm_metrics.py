@@ -180,7 +180,7 @@ def page_stats(looker: Looker, since: float, words: Words) -> Dict[str, Any]:
 
 
 def metrics_of(lookers: List[Looker]) -> str:
-    """All that servers report, in the text format of Prometheus. Of several each sample has the label `server`."""
+    """All that servers report, in the text format of Prometheus. With several servers each sample is labelled."""
     families: Dict[str, List[str]] = {}
     for looker in lookers:
         for name, samples in families_of(looker).items():
@@ -193,18 +193,18 @@ def metrics_of(lookers: List[Looker]) -> str:
     return "\n".join(lines) + "\n"
 
 
-def labelled(sample: str, place: str) -> str:
-    """A sample with the label of its server, where there is a place."""
+def labelled(sample: str, server: str) -> str:
+    """A sample with the label of its server, where there are several."""
     name, _, value = sample.rpartition(" ")
-    if not place:
+    if not server:
         return sample
-    escaped = place.replace("\\", "\\\\").replace('"', '\\"')
+    escaped = server.replace("\\", "\\\\").replace('"', '\\"')
     front = f"{name[:-1]}," if name.endswith("}") else f"{name}{{"
     return f'{front}server="{escaped}"}} {value}'
 
 
 def families_of(looker: Looker) -> Dict[str, List[str]]:
-    """The samples of a server by the names of their metrics. Of a server that is gone only that it is."""
+    """The samples of a server by the names of their metrics. A server that is gone has only the sample that says so."""
     moments = looker.seen.moments
     families: Dict[str, List[str]] = {"hhm_up": ["hhm_up " + ("1" if looker.fault is None else "0")]}
     if looker.fault is None and moments:

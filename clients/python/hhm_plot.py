@@ -262,7 +262,7 @@ class Scale(NamedTuple):
 
 
 def spelled_by(meanings: Meanings) -> Callable[[int], str]:
-    """How a number is told: by its address or name, or by its digits with commas."""
+    """How a number is shown: by its address or name, or by its digits with commas."""
 
     def spelled(number: int) -> str:
         shown = meanings.shown(number)

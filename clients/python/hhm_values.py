@@ -62,7 +62,7 @@ def note(values: List[Value]) -> None:
 
 def choose(given: argparse.Namespace, error: Callable[[str], None]) -> None:
     """Gives the command line the server of its value: for a load the first one's, for a question the one that was
-    noted. `error` is told of what doesn't fit."""
+    noted. `error` gets a message where they don't fit."""
     has_server = given.tcp is not None or given.unix is not None
     if given.word == "load":
         with_server = [value for value in given.value if value.has_server()]

@@ -180,7 +180,7 @@ def is_utf8() -> bool:
 
 
 def cut(line: str, width: int) -> str:
-    """A line of at most so many signs; the last shows where it was cut."""
+    """A line of at most `width` characters; the last shows where it was cut."""
     return line if len(line) <= width else line[: width - 1] + ("\u2026" if is_utf8() else ">")
 
 
@@ -197,7 +197,7 @@ def wrapped(facts: List[str], width: int) -> Iterator[str]:
 
 
 def shown(lines: List[str]) -> bytes:
-    """A screen in place of the one before it, cut to the terminal. It says how many lines are cut."""
+    """A screen over the one before it, cut to the terminal. It says how many lines are cut."""
     size = shutil.get_terminal_size()
     room = size.lines - 1
     if len(lines) > room:
