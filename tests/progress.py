@@ -32,6 +32,9 @@ CLEAR = "\r\x1b[K"
 # The cells of a snapshot whose reading can be stopped in its middle.
 CELLS = 1_000_000
 
+# A busy machine lets a process read all of it before anyone can stop it: then it runs again, this often at most.
+TRIES = 10
+
 
 class Run:
     """The program with a terminal for its standard error, of which all is kept that comes."""
@@ -190,10 +193,14 @@ def snapshots_are_shown():
     text += b"".join(b"%d 1 1\n" % n for n in range(1, CELLS + 1))
     line = b"rows %d cols 1 shards 1 batches 1 total %d entries %d\n" % (CELLS, CELLS, CELLS)
     for word, wanted in [("check", line), ("export", text), ("fold", b"folded 1 total %d\n" % CELLS)]:
-        write_snapshot(path)
-        run = Run([word, path])
-        check(f"{word}: it was reading", stops(run.process, path, [0.1]), True)
-        output, shown, status = run.end()
+        for _ in range(TRIES):
+            write_snapshot(path)
+            run = Run([word, path])
+            was_reading = stops(run.process, path, [0.1])
+            output, shown, status = run.end()
+            if was_reading:
+                break
+        check(f"{word}: it was reading", was_reading, True)
         check(f"{word}: the end", (output == wanted, status), (True, 0))
         told = lines_of(word, shown)
         check(f"{word}: about", [entries - megabytes * 10**6 // 24 < 50_000 for megabytes, entries, _ in told],
@@ -209,10 +216,14 @@ def a_long_load_is_told():
     words = [server.PROGRAM, "serve", "--unix", os.path.join(server.FOLDER, "socket"), "--rows", str(CELLS), "--cols",
              "1", "--cuts", "none", "--shards", "1", "--limit", str(CELLS), "--max-batches", "10", "--events",
              "--sessions", "0", "--snapshot", path]
-    with subprocess.Popen(words, stdout=subprocess.PIPE, stderr=subprocess.PIPE, text=True) as process:
-        # Twice, since what is told is told by a thread of its own, which may begin late.
-        check("a load: it was reading", stops(process, path, [0.05, 0.3]), True)
-        _, error = process.communicate(timeout=WAIT)
+    for _ in range(TRIES):
+        with subprocess.Popen(words, stdout=subprocess.PIPE, stderr=subprocess.PIPE, text=True) as process:
+            # Twice, since a thread of its own reports, which may begin late.
+            was_reading = stops(process, path, [0.05, 0.3])
+            _, error = process.communicate(timeout=WAIT)
+        if was_reading:
+            break
+    check("a load: it was reading", was_reading, True)
     told = [re.sub(r"^\S+ | seconds=.*$", "", it) for it in error.splitlines()]
     loading = f'loading path="{path}"'
     check("a load: what is told first", told[:1], [loading])
