@@ -187,7 +187,7 @@ module _ {F L : Type 0} (loads : F → ℕ → Result Saved FileFault → F → 
       reads u most_bytes (Ok logged) v → IsLogTold loads reads s t u v check.Memory
   empty_refused None logged loaded read =
       refusal_told (saved (origin logged.head.identity true) logged.head.setup
-          (listed_in logged.head.setup (unfolded []))) logged check.Memory
+      (listed_in logged.head.setup (unfolded []))) logged check.Memory
       (record { found = None; loaded = loaded; read = read; known_is = refl }) tt
   empty_refused (Some x) logged loaded read =
       refusal_told x logged check.Memory
