@@ -64,6 +64,8 @@ def run_all(tests):
     global PROGRAM, FOLDER
     PROGRAM = os.path.abspath(sys.argv[1])
     signal.signal(signal.SIGPIPE, signal.SIG_IGN)
+    # In the background of a shell it is ignored, and so it would be by each program that is started.
+    signal.signal(signal.SIGINT, signal.default_int_handler)
     with tempfile.TemporaryDirectory() as FOLDER:
         tests()
     print(f"{passed} passed, {failed} failed")
