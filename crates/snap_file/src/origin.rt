@@ -5,7 +5,7 @@ ghost use Rattle.snap_file.specs.Origins.{unknown};
 /// The window of a book that has none.
 pub const NO_WINDOW: u64 = u64::MAX;
 
-/// A book, by 128 bits that were drawn for it, and a window of it. Files with the same identity belong to one book.
+/// A book, by 128 bits, and a window of it. So far nothing draws a book: a server writes that it isn't known.
 #[derive(Clone, Copy, Debug, PartialEq, Eq)]
 pub struct Identity {
     /// The first eight bytes of the book's identity. All sixteen are 0 where the book isn't known.
@@ -20,7 +20,8 @@ pub struct Identity {
 #[derive(Clone, Copy, Debug, PartialEq, Eq)]
 pub struct Origin {
     pub identity: Identity,
-    /// Whether a log goes with the file: then the file alone may lack batches that were accepted.
+    /// Whether a log goes with the file: then the file alone may lack batches that were accepted. Where the book isn't
+    /// known, `false` says nothing: so far a server with a log writes it too.
     pub has_log: bool,
 }
 
