@@ -98,7 +98,7 @@ def a_file_counts_once():
         ]:
             _, error, status = load(at, *given, 7, file)
             check(name, (status, f"client 7 was loaded with {told} (" in error), (2, True))
-        check("another map: no table was written", server.content(path_of("7.names")), b"")
+        check("another map: no table was written", os.path.exists(path_of("7.names")), False)
         check("nothing of those was put", sum_of(at), before)
         with open(os.path.join(path_of("state"), "hhm", "client-7.batches"), "rb+") as state:
             lines = state.read().split(b"\n", 1)
@@ -269,6 +269,26 @@ def a_refused_load_writes_no_names():
         check("IPv6 in 2^32 rows", (status, told in error, "--rows 8589934592" in error), (1, True, True))
 
 
+def a_load_that_the_server_refuses_leaves_nothing():
+    """A first batch that is refused leaves no name and no note of it, so that the mended file can be loaded."""
+    names, state = path_of("few.names"), path_of("few.state")
+    given = ["--cols", "1,2", "--map", "name", "--names", names, "--state", state, "612"]
+    with Server(["--rows", "3", "--cols", "3"], tcp=False) as at:
+        for there in [None, b"x\n"]:
+            told = load(at, *given, written("few.csv", "a,b\nc,d\n"))
+            check("refused", (told[2], "refused: IndexOutOfRange" in told[1]), (1, True))
+            left = [server.content(it) if os.path.exists(it) else None for it in (names, state)]
+            check("refused: what is left", left, [there, None])
+            with open(names, "wb") as table:
+                table.write(b"x\n")
+        check("mended", load(at, *given, written("few.csv", "x,y\n"))[::2], ("new 1 repeats 0 events 1\n", 0))
+        check("mended: the table", server.content(names), b"x\ny\n")
+        check("a later batch", load(at, "--batch", "1", *given, written("few.csv", "x,y\n"))[2], 2)
+        late = ["--batch", "1", *given[:-3], "--state", f"{state}.late", "613"]
+        check("a later batch", load(at, *late, written("late.csv", "x,y\nx,z\nx,a\n"))[2], 1)
+        check("a later batch: names may be in use", server.content(names), b"x\ny\nz\na\n")
+
+
 def ctrl_c_says_how_to_go_on():
     """What was put counts, and the same words go on."""
     lines, cells = flows(9, 400)
@@ -422,6 +442,7 @@ def all_are_tried():
     refusals_tell_the_line()
     names_keep_their_numbers()
     a_refused_load_writes_no_names()
+    a_load_that_the_server_refuses_leaves_nothing()
     ctrl_c_says_how_to_go_on()
     several_values_go_to_servers()
     killed_and_begun_again(False)

@@ -25,9 +25,9 @@ import os
 import re
 import sys
 from time import monotonic
-from typing import Any, Callable, Deque, Dict, Iterator, List, NamedTuple, Optional, Sequence
+from typing import Any, Callable, Deque, Dict, Iterator, List, NamedTuple, Optional, Sequence, Tuple
 
-from hhm_client import MAX_CELLS, BookWentBack, Client, Ended, Refused
+from hhm_client import MAX_CELLS, Arrays, BookWentBack, Client, Ended, Refused
 from hhm_events import FORMATS, OF_ADDRESSES, Batch, Events, Limit, Source, Tally, format_of
 from hhm_heads import DIGITS, Wanted
 from hhm_values import Value, folder_of_states, note
@@ -51,42 +51,74 @@ def number_of(word: str) -> int:
     return value
 
 
-def locked(path: str, what: str) -> int:
-    """Opens a file to read it and to write behind it, whose name is on the disk then, and which nobody else has open
-    so. An Ended where another load has."""
-    folder = os.path.dirname(path) or "."
+def opened(path: str) -> Tuple[int, bool]:
+    """Opens a file to read it and to write behind it, and returns whether it was made."""
+    flags = os.O_RDWR | os.O_APPEND | os.O_CREAT | os.O_CLOEXEC
     try:
-        os.makedirs(folder, exist_ok=True)
-        file = os.open(path, os.O_RDWR | os.O_APPEND | os.O_CREAT | os.O_CLOEXEC, 0o666)
-        named = os.open(folder, os.O_RDONLY | os.O_DIRECTORY)
+        return os.open(path, flags | os.O_EXCL, 0o666), True
+    except FileExistsError:
+        return os.open(path, flags, 0o666), False
+
+
+class Lines:
+    """A file of lines that only grows, and that nobody else has open so. An Ended where another load has."""
+
+    def __init__(self, path: str, what: str):
+        self.path, folder = path, os.path.dirname(path) or "."
+        try:
+            os.makedirs(folder, exist_ok=True)
+            self.file, self.is_made = opened(path)
+            sync_folder(folder)
+        except OSError as fault:
+            raise Ended(4, f"{path}: {fault.strerror}") from None
+        try:
+            fcntl.flock(self.file, fcntl.LOCK_EX | fcntl.LOCK_NB)
+            # (another load may have removed what was opened)
+            is_there = os.path.samestat(os.fstat(self.file), os.stat(path))
+        except OSError:
+            is_there = False
+        if not is_there:
+            os.close(self.file)
+            raise Ended(4, f"{path}: another load uses {what}")
+        self.known = self._whole()
+        self.length = os.fstat(self.file).st_size
+
+    def _whole(self) -> List[bytes]:
+        """The lines that are there. A last one that isn't whole was never used, and is cut off."""
+        with open(os.dup(self.file), "rb") as content:
+            text = content.read()
+        end = text.rfind(b"\n") + 1
+        if end < len(text):
+            os.ftruncate(self.file, end)
+        return text[:end].split(b"\n")[:-1]
+
+    def append(self, lines: Sequence[bytes]) -> None:
+        """Writes lines behind those of the file, and returns once they are on the disk."""
+        rest = memoryview(b"".join(line + b"\n" for line in lines))
+        while rest:
+            rest = rest[os.write(self.file, rest):]
+        os.fsync(self.file)
+
+    def take_back(self) -> None:
+        """Removes what was appended."""
+        os.ftruncate(self.file, self.length)
+        os.fsync(self.file)
+
+    def close(self) -> None:
+        """Closes the file. One that was made and has no line is removed."""
+        if self.is_made and not os.fstat(self.file).st_size:
+            with contextlib.suppress(OSError):
+                os.unlink(self.path)
+        os.close(self.file)
+
+
+def sync_folder(folder: str) -> None:
+    """Returns once the names in a folder are on the disk."""
+    named = os.open(folder, os.O_RDONLY | os.O_DIRECTORY)
+    try:
         os.fsync(named)
+    finally:
         os.close(named)
-    except OSError as fault:
-        raise Ended(4, f"{path}: {fault.strerror}") from None
-    try:
-        fcntl.flock(file, fcntl.LOCK_EX | fcntl.LOCK_NB)
-    except OSError:
-        os.close(file)
-        raise Ended(4, f"{path}: another load uses {what}") from None
-    return file
-
-
-def whole_lines(file: int) -> List[bytes]:
-    """The lines of a file that only grows. A last one that isn't whole was never used, and is cut off."""
-    with open(os.dup(file), "rb") as content:
-        text = content.read()
-    end = text.rfind(b"\n") + 1
-    if end < len(text):
-        os.ftruncate(file, end)
-    return text[:end].split(b"\n")[:-1]
-
-
-def append(file: int, lines: Sequence[bytes]) -> None:
-    """Writes lines behind those of a file, and returns once they are on the disk."""
-    rest = memoryview(b"".join(line + b"\n" for line in lines))
-    while rest:
-        rest = rest[os.write(file, rest):]
-    os.fsync(file)
 
 
 class Table(Dict[str, int]):
@@ -94,8 +126,8 @@ class Table(Dict[str, int]):
 
     def __init__(self, path: str, first: int):
         super().__init__()
-        self.file = locked(path, "this table of names")
-        lines = [line.decode("utf-8", "surrogateescape") for line in whole_lines(self.file)]
+        self.file = Lines(path, "this table of names")
+        lines = [line.decode("utf-8", "surrogateescape") for line in self.file.known]
         self.first = first
         self.update((name, first + place) for place, name in enumerate(lines))
         # Names that have a number and aren't in the file yet.
@@ -113,11 +145,8 @@ class Table(Dict[str, int]):
     def sync(self) -> None:
         """Writes what is new, and returns once it is on the disk."""
         if self.new:
-            append(self.file, [name.encode("utf-8", "surrogateescape") for name in self.new])
+            self.file.append([name.encode("utf-8", "surrogateescape") for name in self.new])
             self.new = []
-
-    def close(self) -> None:
-        os.close(self.file)
 
 
 class State:
@@ -126,8 +155,8 @@ class State:
 
     def __init__(self, path: str, client: int):
         self.path, self.client = path, client
-        self.file = locked(path, f"client {client}")
-        self.known = whole_lines(self.file)
+        self.file = Lines(path, f"client {client}")
+        self.known = self.file.known
         self.new: List[bytes] = []
         self.options: Optional[Dict[str, str]] = None if self.known else {}
         if self.known and self.known[0].startswith(OPTIONS):
@@ -172,11 +201,8 @@ class State:
 
     def sync(self) -> None:
         if self.new:
-            append(self.file, self.new)
+            self.file.append(self.new)
             self.new = []
-
-    def close(self) -> None:
-        os.close(self.file)
 
 
 def first_batch(path: str) -> bytes:
@@ -265,6 +291,8 @@ class Load:
         self.state = State(options.state or usual_state(client), client)
         self.table: Optional[Table] = None
         self.progress = Progress(options.progress)
+        # Whether a server may have any of the events.
+        self.is_sent = False
         self.begin()
 
     def begin(self) -> None:
@@ -342,13 +370,26 @@ class Load:
             self.new += 1
 
     def puts(self, value: int, batches: Iterator[Batch]) -> Iterator[int]:
-        """Puts a value of batches to its server, and gives their indices there."""
+        """Puts a value of batches to its server, and gives their indices there. The first goes alone, so that nothing
+        was counted where it is refused."""
         hhm = self.servers[value]
         try:
+            if (first := next(batches, None)) is not None:
+                yield self.put_first(hhm, first.number, first.cells(value))
             for _, accepted in hhm.put_all((batch.number, batch.cells(value)) for batch in batches):
                 yield accepted.index
         except (Refused, OSError):
             self.place = f"{hhm.unix or hhm.tcp}: " if len(self.servers) > 1 else ""
+            raise
+
+    def put_first(self, hhm: Client, number: int, cells: Arrays) -> int:
+        """Puts a server's first batch, and returns its index there."""
+        was_sent, self.is_sent = self.is_sent, True
+        try:
+            return hhm.put(number, cells).index
+        except Refused as refused:
+            # (a batch that a log didn't take may be in the server's memory all the same)
+            self.is_sent = was_sent or refused.is_of_log
             raise
 
     def put_all(self) -> None:
@@ -374,6 +415,8 @@ class Load:
                     self.say(f"{fault}: loading again from the start")
                     self.begin()
         except Refused as refused:
+            if not self.is_sent:
+                self.take_back()
             raise self.refusal(refused) from None
         except csv.Error as fault:
             raise self.stopped(Ended(3, str(fault))) from None
@@ -386,11 +429,19 @@ class Load:
             raise Ended(4, told) from None
         finally:
             self.progress.clear()
-            self.state.close()
             for hhm in self.servers:
                 hhm.close()
-            if self.table is not None:
-                self.table.close()
+            for file in self.files():
+                file.close()
+
+    def files(self) -> List[Lines]:
+        """The files that a load notes names and batches in."""
+        return [self.state.file, *([] if self.table is None else [self.table.file])]
+
+    def take_back(self) -> None:
+        """Removes from these files what this load has noted, since no server counts any of it."""
+        for file in self.files():
+            file.take_back()
 
     def stopped(self, fault: Ended) -> Ended:
         """What is said where lines end a load amid its files: what was put counts, and must stay as it is."""
