@@ -30,7 +30,7 @@ NAME = f"hhm-{VERSION}-unproved-x86_64-linux"
 DEB = f"hhm_{VERSION}~unproved_amd64.deb"
 WHEEL = f"share/hhm/hhm_client-{VERSION}-py3-none-any.whl"
 COMMANDS = {"hhm": "sum check export fold top list degrees serve".split(),
-            "hhmc": "put load plot top list stats watch metrics cell row status stored export save fold stop".split()}
+            "hhmc": "put load plot top list stats watch metrics cell row status stored export save fold stop backup".split()}
 # The files of the tree that the Debian package has elsewhere, below /usr.
 MOVED = {**{f"share/man/man1/{it}.1": f"share/man/man1/{it}.1.gz" for it in ("hhm", "hhmc", "hhm-run")},
          **{f"share/zsh/site-functions/_{it}": f"share/zsh/vendor-completions/_{it}" for it in COMMANDS}}

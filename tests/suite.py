@@ -18,7 +18,7 @@ OF_HHM = (
     "loading.py", "packages.py", "cluster.py", "bridges.py", "pictures.py", "analysis.py", "watching.py", "server.py",
     "generated.py", "folding.py", "server_faults.py", "server_log.py", "server_log_faults.py", "log_events.py",
     "log_torture.py", "server_paths.py", "server_ends.py", "progress.py", "server_clients.py", "install.py",
-    "distribution.py", "examples.py", "refused.py",
+    "distribution.py", "examples.py", "backups.py", "refused.py",
 )  # fmt: skip
 OF_GROWTHS = ("refused_libraries.py",)
 OF_BENCH = ("run.py", "serve.py")

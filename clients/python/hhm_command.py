@@ -1,6 +1,6 @@
 """The command line of `hhm_client.py`, which is installed as `hhmc`: one word for each question, and more of modules
 beside it: `load` (hhm_load.py), `plot` (hhm_plot.py), all questions (hhm_ask.py), `export` (hhm_export.py), `watch`
-(hhm_watch.py) and `metrics` (hhm_metrics.py)."""
+(hhm_watch.py), `metrics` (hhm_metrics.py) and `backup` (hhm_backup.py)."""
 import argparse
 import importlib
 import os
@@ -99,6 +99,8 @@ def parser() -> argparse.ArgumentParser:
     asked.add_parser("save", help="saves a snapshot")
     asked.add_parser("fold", help="folds what was accepted, so that the server needs less memory for it")
     add_stop(asked)
+    if module := module_of("hhm_backup"):
+        module.add_words(asked.add_parser("backup", help="copies a server's files, on its machine, and checks the copy"))
     words.epilog = f"{ENVIRONMENT} {STATUSES}"
     for word in asked.choices.values():
         word.epilog = STATUSES
@@ -120,6 +122,10 @@ def given_words() -> argparse.Namespace:
     if getattr(given, "snapshot", None) is not None:
         if has_server:
             words.error("--file is in place of a server: leave --tcp, --unix and --from out")
+        return given
+    if given.word == "backup":
+        if has_server:
+            words.error("backup copies files of this machine: leave --tcp, --unix and --from out")
         return given
     if given.source is not None and given.word != "plot":
         words.error(f"--from is for plot: give --tcp or --unix for {given.word}")
@@ -182,6 +188,9 @@ def asked(given: argparse.Namespace) -> Iterable[bytes]:
     for an answer; without one the client says so itself."""
     if given.source is not None:
         yield module_of("hhm_plot").plot(None, given).encode()
+        return
+    if given.word == "backup":
+        yield module_of("hhm_backup").backup(given).encode()
         return
     if given.word in ("watch", "metrics"):
         yield from module_of(f"hhm_{given.word}").run(given)
