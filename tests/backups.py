@@ -227,8 +227,8 @@ class Machine:
         written(os.path.join(self.root, "etc/default/hhm"), 'HHM_OPTIONS=""\n')
         with open(os.path.join(TOP, "tools", "hhm.service")) as file:
             unit = file.read().replace("\\\n", " ")
-        words = re.search(r"^ExecStart=\S+ --unix \S+ (.*)$", unit, re.M)[1].replace("$HHM_OPTIONS", "")
-        stubs = STUBS.replace("OPTIONS", self.placed(f"{words} {' '.join(LARGE)}"))
+        words = [re.search(rf" ({option} \S+)", unit)[1] for option in ("--snapshot", "--log")]
+        stubs = STUBS.replace("OPTIONS", self.placed(" ".join([*words, *LARGE])))
         self.stubs = stubs.replace("ROOT", self.root).replace("OTHER", other.root if other else "")
 
     def placed(self, text):
