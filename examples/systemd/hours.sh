@@ -28,9 +28,9 @@ save_log() {
     local name=${1##*/} told is_saved=yes
     told=$("$hhm" check "$1/sum.snap" --log "$2") || fail "hhm check $1/sum.snap --log $2 failed"
     [[ $told != *" batches 0 pages "* ]] || return 0
-    "$systemctl" start "hhm@$name"
+    "$systemctl" start "hhm@$name" || fail "hhm@$name can't be started"
     "$hhmc" --unix "${RUN:-/run}/hhm-$name/hhm.sock" --attempts 40 save >/dev/null || is_saved=
-    "$systemctl" stop "hhm@$name"
+    "$systemctl" stop "hhm@$name" || fail "hhm@$name can't be stopped"
     [[ -n $is_saved ]] || fail "hhm@$name didn't save the batches of its log"
 }
 
