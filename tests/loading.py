@@ -23,7 +23,8 @@ from server import Server, check
 
 HERE = os.path.dirname(os.path.abspath(__file__))
 HHMC = os.path.join(HERE, "..", "clients", "python", "hhm_client.py")
-from hhm_client import Client, cells_of  # noqa: E402 (server.py has put the client's folder on the path)
+from hhm_client import STATUS, Client, cells_of  # noqa: E402 (server.py has put the client's folder on the path)
+from peers import Peer, frame_of  # noqa: E402
 
 LARGE = ["--rows", str(1 << 60), "--cols", str(1 << 60)]
 WAIT = 60
@@ -289,6 +290,32 @@ def a_load_that_the_server_refuses_leaves_nothing():
         check("a later batch: names may be in use", server.content(names), b"x\ny\nz\na\n")
 
 
+class Refuser(Peer):
+    """A server without a batch that refuses each put by one code."""
+
+    name = "refuser"
+
+    def __init__(self, code):
+        self.code = code
+        super().__init__()
+
+    def meet(self, link):
+        with link:
+            while frame := frame_of(link):
+                is_status = frame[4] == STATUS
+                link.sendall(b"\0\0\0\x10\x84" + bytes(16) if is_status else server.refused(self.code))
+
+
+def a_refusal_that_may_hide_a_batch_keeps_its_names():
+    """Of memory, of a log and of codes that aren't known: an earlier try of the batch may have been accepted."""
+    for code, is_kept in [(1, True), (33, True), (34, True), (35, True), (19, True), (20, False), (32, False)]:
+        names, state = path_of(f"{code}.names"), path_of(f"{code}.state")
+        with Refuser(code) as at:
+            given = ["--cols", "1,2", "--map", "name", "--names", names, "--state", state, "614"]
+            check(f"refused by {code}", load(at, *given, written("refused.csv", "a,b\n"))[2], 1)
+        check(f"refused by {code}: what is left", [os.path.exists(it) for it in (names, state)], [is_kept] * 2)
+
+
 def ctrl_c_says_how_to_go_on():
     """What was put counts, and the same words go on."""
     lines, cells = flows(9, 400)
@@ -443,6 +470,7 @@ def all_are_tried():
     names_keep_their_numbers()
     a_refused_load_writes_no_names()
     a_load_that_the_server_refuses_leaves_nothing()
+    a_refusal_that_may_hide_a_batch_keeps_its_names()
     ctrl_c_says_how_to_go_on()
     several_values_go_to_servers()
     killed_and_begun_again(False)

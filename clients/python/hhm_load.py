@@ -40,6 +40,8 @@ OPTIONS = b"options "
 STATE_FILE = re.compile(r"client-([0-9]+)\.batches")
 # The first number of an IPv6 address, after all of IPv4.
 IPV4 = 1 << 32
+# The codes of refusals that say that the server doesn't have the batch.
+JUDGED = range(20, 33)
 SIX = (": addresses of IPv6 have the numbers from 4294967296 on, by the table: start the server with more rows and "
        "columns, as --rows 8589934592 --cols 8589934592")
 
@@ -388,8 +390,8 @@ class Load:
         try:
             return hhm.put(number, cells).index
         except Refused as refused:
-            # (a batch that a log didn't take may be in the server's memory all the same)
-            self.is_sent = was_sent or refused.is_of_log
+            # (a want of memory or of a log says nothing of an earlier try, whose reply was lost)
+            self.is_sent = was_sent or refused.code not in JUDGED
             raise
 
     def put_all(self) -> None:
