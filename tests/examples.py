@@ -76,7 +76,7 @@ def the_containers_are_bounded(template):
     places = [it["mountPath"] for it in container["volumeMounts"]]
     paths = [it.partition("=")[2] for it in container["command"] if "=/" in it]
     outside = [it for it in paths if not any(it.startswith(f"{place}/") for place in places)]
-    check("kubernetes: files on volumes", (len(paths), outside), (3, []))
+    check("kubernetes: files on volumes", (len(paths) >= 3, outside), (True, []))
 
 
 def the_container_ends_in_order(command):
@@ -132,7 +132,7 @@ def kubernetes():
     the_containers_are_bounded(template)
     command = template["containers"][0]["command"]
     check("kubernetes: the program", command[0], "/usr/local/bin/hhm-run")
-    _, known, _ = ran(server.PROGRAM, "serve", "--help")
+    known = "".join(ran(*it, "--help")[1] for it in [(server.PROGRAM, "serve"), (f"{TOP}/tools/hhm-run",)])
     check("kubernetes: options", [it for it in command[1:] if f" {it.partition('=')[0]} " not in known], [])
     the_container_ends_in_order(command)
 
