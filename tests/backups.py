@@ -153,7 +153,7 @@ def what_fails_leaves_the_last_backup(files):
     waits = written(os.path.join(files.folder, "waits"), "#!/bin/sh\nexec sleep 60\n", 0o755)
     words = [sys.executable, HHMC, "backup", files.backups, files.snap, files.log, "--program", waits]
     with subprocess.Popen(words, start_new_session=True) as process:
-        while not any(os.path.exists(f"{files.backups}/{it}/sum.snap") for it in files.kept() if it not in before):
+        while process.poll() is None and len(os.listdir(files.backups)) == len(before):
             time.sleep(0.01)
         os.killpg(process.pid, signal.SIGKILL)
     check("killed: what it leaves", len(files.kept()), len(before) + 1)
