@@ -241,7 +241,8 @@ class Machine:
         env = {**os.environ, "PATH": f"{self.root}/bin:{os.environ['PATH']}", "HHM_SERVER": ""}
         output, error = os.path.join(self.root, "output"), os.path.join(self.root, "error")
         with open(output, "w") as out, open(error, "w") as err:
-            ended = subprocess.run(["bash", "-c", self.stubs + self.placed(commands)], stdout=out, stderr=err, env=env, timeout=WAIT)
+            words = ["bash", "-c", self.stubs + self.placed(commands)]
+            ended = subprocess.run(words, stdout=out, stderr=err, env=env, timeout=WAIT)
         return server.content(output).decode(), server.content(error).decode(), ended.returncode
 
     def asked(self):
@@ -290,7 +291,8 @@ def commands_of_operating():
         check("restore: one is put again", hhm.put(3, [(2, 0, 9)]), (2, 21))
     output, error, status = old.run(upgrade)
     check("upgrade", (counted(output.splitlines(True)[0])[1:], error, status), ((3, 21), "", 0))
-    check("upgrade: asked", old.asked(), ["apt install ./hhm_0.1.0_amd64.deb", "systemctl stop hhm", "systemctl start hhm"])
+    wanted = ["apt install ./hhm_0.1.0_amd64.deb", "systemctl stop hhm", "systemctl start hhm"]
+    check("upgrade: asked", old.asked(), wanted)
     check("move", old.run(move), ("", "", 0))
     output, error, status = new.run(there)
     check("move: there", (output.split()[6:10], error, status), (["batches", "3", "total", "21"], "", 0))
@@ -319,8 +321,8 @@ def contents_lead_to_sections():
     titles = re.findall(r"^## (.*)$", text, re.M)
     wanted = [(it, re.sub(r"[^\w -]", "", it.lower()).replace(" ", "-")) for it in titles]
     check("contents", re.findall(r"^- \[(.*)\]\(#(.*)\)$", text.partition("\n## ")[0], re.M), wanted)
-    first = text.split("\n## ")[1].splitlines()
-    check("before you rely on it", (first[0], len([it for it in first[1:] if it]) <= 10), ("Before you rely on it", True))
+    first, *lines = text.split("\n## ")[1].split("\n")
+    check("before you rely on it", (first, len([it for it in lines if it]) <= 10), ("Before you rely on it", True))
 
 
 def all_are_tried():

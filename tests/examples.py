@@ -45,7 +45,7 @@ def read(*names):
 
 
 def missing(value, wanted, path=""):
-    """What a value lacks of a form: types by their keys, a list of one form for all items, or a value that is wanted."""
+    """What a value lacks of a form: a type or a value, a map of forms by their keys, or a list of one form for all."""
     if isinstance(wanted, dict):
         return [it for key, form in wanted.items()
                 for it in (missing(value[key], form, f"{path}.{key}") if key in value else [f"{path}.{key}"])]

@@ -61,7 +61,8 @@ def pairs(lines, indent):
         parts = KEY.fullmatch(line.text)
         if not parts or parts["key"] in found:
             raise ValueError(f"{line.text!r} isn't a key with a value, or its key is there already")
-        is_below = lines and (lines[0].indent > indent or (lines[0].indent == indent and lines[0].text.startswith("- ")))
+        is_list = lines and lines[0].indent == indent and lines[0].text.startswith("- ")
+        is_below = is_list or (lines and lines[0].indent > indent)
         if parts["rest"]:
             found[parts["key"]] = word(parts["rest"])
         else:

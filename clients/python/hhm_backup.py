@@ -168,7 +168,7 @@ def at_least_one(word: str) -> int:
 def add_words(words: argparse.ArgumentParser) -> None:
     """Adds the words of `backup` to those of the command line."""
     words.add_argument("folder", metavar="DIR", help="where backups are kept, a folder that is there, on another disk")
-    words.add_argument("snap", metavar="SNAP", help="the server's snapshot, which may not be there before the first save")
+    words.add_argument("snap", metavar="SNAP", help="the server's snapshot, which isn't there before the first save")
     words.add_argument("log", metavar="LOG", help="the server's log")
     words.add_argument("--keep", type=at_least_one, default=2, metavar="N", help="how many backups stay in DIR (2)")
     words.add_argument("--program", metavar="FILE", help="the hhm that checks the copy (hhm)")
