@@ -94,6 +94,14 @@ def log(blocks, before=(), setup=SMALL, origin=UNKNOWN):
     return held
 
 
+def lost(held, *spans):
+    """Bytes of which some became 00: from one up to another of a page, for each of these spans."""
+    changed = bytearray(held)
+    for number, begin, end in spans:
+        changed[number * PAGE + begin : number * PAGE + end] = bytes(end - begin)
+    return bytes(changed)
+
+
 class LogFault(Exception):
     """The first fault of a log's bytes, as the program tells it."""
 
@@ -230,15 +238,25 @@ class Log:
         )  # fmt: skip
 
     def read_rest(self, at, place):
-        """Counts the pages from here on, which are to be those of a block in the making."""
-        pages = 0
+        """Counts the pages from here on, which are to be what an append of one block may have left.
+
+        `choices` are what each of the four bytes of the block's number of pages may be.
+        """
+        choices = [range(256)] * 4
         for number, held in enumerate(self.pages[at:]):
             kind = page_kind(held)
-            is_next = kind == "whole" and self.is_next(held, place, number, pages)
-            if not (kind == "empty" or is_next or kind == "short" and (pages == 0 or number < pages)):
+            if kind == "empty":
+                continue
+            choices = [
+                [byte for byte in bytes_left if byte == told or kind == "short" and told == 0]
+                for bytes_left, told in zip(choices, held[20:24])
+            ]
+            most = int.from_bytes(bytes(max(bytes_left, default=0) for bytes_left in choices), "big")
+            right = field(1, 2) + field(place) + field(number % 2**32, 4)
+            fits = all(byte == due or kind == "short" and byte == 0 for byte, due in zip(held[6:20], right))
+            if kind == "spoilt" or not all(choices) or most <= number or not fits:
                 raise LogFault("Damaged", 1 + at + number)
-            pages = number_in(held, 20, 4) if is_next else pages
-            self.rest += kind != "empty"
+            self.rest += 1
 
     def all_batches(self):
         return [batch for _, batches in self.blocks for batch in batches]

@@ -16,7 +16,9 @@ import tempfile
 from concurrent.futures import ThreadPoolExecutor
 
 import log_bytes
-from log_bytes import CHUNK, PAGE, SMALL, JoinFault, Log, LogFault, check_line, checked_head, entry_of, head, log, page
+from log_bytes import (
+    CHUNK, PAGE, SMALL, JoinFault, Log, LogFault, check_line, checked_head, entry_of, head, log, lost, page,
+)  # fmt: skip
 from program import SOME, Case, leave_room, run
 from snap_bytes import BOOK, MOST, NONE, OWNED, Origin, field, fields, snapshot, with_byte
 
@@ -203,6 +205,51 @@ NO_LOGS = [
     ("a damaged page before a bad block", head() + B2 + log_bytes.pages_of(0, fields(0)), "Damaged at page 1"),
 ]  # fmt: skip
 
+# Ten blocks of one page each, and two pages of a block of 300, which is 0000012c.
+TEN = log([[(1, n, [(0, n % 3, 10)])] for n in range(10)])
+OF_300 = page(1, 0, 300, log_bytes.payload([THREE])) + page(1, 1, 300, b"")
+
+
+def pair(first, second):
+    """A block, and behind it these two pages of the next one."""
+    return head() + B1 + page(1, 0, first, log_bytes.payload([THREE])) + page(1, 1, second, b"\1")
+
+
+# What an append of one block may have left behind others: a name, the log, its batches, pages and pages of the rest.
+LEFT = [
+    ("a first page whose number of pages is lost", lost(pair(2, 2), (2, 20, 24)), 1, 2, 2),
+    ("a first page that lost its count", lost(pair(2, 2), (2, 79, 80)), 1, 2, 2),
+    ("a first page without what it says", lost(pair(2, 2), (2, 6, 24)), 1, 2, 2),
+    ("two pages without their place", lost(pair(2, 2), (2, 8, 16), (3, 8, 16)), 1, 2, 2),
+    ("other bytes of the number of pages in each page", lost(head() + B1 + OF_300, (2, 22, 23), (3, 23, 24)), 1, 2, 2),
+    ("the lower byte of the number in both", lost(head() + B1 + OF_300, (2, 22, 23), (3, 22, 23)), 1, 2, 2),
+    # Nothing says that these weren't pages of one block, of 257 pages and more.
+    ("seven blocks and what an eighth says of itself", lost(TEN, *((n, 0, PAGE) for n in range(4, 10)),
+                                                           (3, 24, PAGE), (10, 0, 24)), 2, 3, 2),
+    ("eight blocks", lost(TEN, *((n, 0, PAGE) for n in range(3, 11))), 2, 3, 0),
+]  # fmt: skip
+
+# What no append of one block has left: a name, the log, and the page.
+NOT_LEFT = [
+    ("two blocks that lost their counts", lost(TWO, (1, 79, 80), (2, 79, 80)), 2),
+    ("eight blocks that lost their batches", lost(TEN, *((n, 24, 80) for n in range(3, 11))), 4),
+    ("eight blocks that lost all but their place", lost(TEN, *((n, 16, PAGE) for n in range(3, 11))), 4),
+    ("seven blocks and a byte of an eighth", lost(TEN, *((n, 0, PAGE) for n in range(3, 10)), (10, 79, 80)), 10),
+    ("all but a whole block at the end", lost(TEN, *((n, 0, PAGE) for n in range(3, 10))), 10),
+    ("a block that lost a byte before the last", lost(TEN, (9, 79, 80)), 10),
+    ("two numbers of pages", lost(pair(2, 3), (2, 79, 80), (3, 24, 25)), 3),
+    ("two numbers of pages, of which a whole page has one", lost(pair(2, 3), (2, 79, 80)), 3),
+    ("bytes of two numbers", lost(head() + B1 + page(1, 0, 257, b"\1") + page(1, 1, 769, b"\1"),
+                                  (2, 24, 25), (3, 24, 25)), 3),
+    ("another number of pages behind a whole page", lost(pair(2, 3), (3, 24, 25)), 3),
+    ("a page behind the last", lost(pair(2, 2), (2, 79, 80)) + page(1, 2, 3, b"\1"), 4),
+    ("a page behind the last that says nothing", lost(pair(2, 2), (2, 79, 80)) + bytes(PAGE - 1) + b"\1", 4),
+    ("a block behind one that lost a byte", lost(TEN + log_bytes.block(10, [NINE]), (10, 79, 80), (11, 79, 80)), 11),
+    ("a page of another number", lost(head() + B1 + other_page(number=1, pages=2), (2, 79, 80)), 2),
+    ("a page of another kind that lost a byte", lost(head() + B1 + other_page(kind=3), (2, 79, 80)), 2),
+    ("a page at another place that lost a byte", lost(head() + B1 + other_page(place=3), (2, 79, 80)), 2),
+]  # fmt: skip
+
 OTHER = SMALL._replace(shards=3)
 
 # A name, the snapshot or None, the log, and why they don't belong together.
@@ -296,6 +343,21 @@ def tables(program):
             yield f"{name}, by the plainer reader", [] if found == (None, f"log: {told}") else [f"it says {found}"]
         for name, held, logged, told in NOT_JOINED:
             yield name, checked(program, folder, held, logged, told=told)
+
+
+def ends(program):
+    """What an append may have left behind a log's blocks, and what none has, by hand and by the plainer reader."""
+    with tempfile.TemporaryDirectory() as folder:
+        for name, logged, batches, pages, rest in LEFT:
+            found = Log(logged)
+            output = check_line(found.all_batches()) + "\n" + log_line(0, batches, pages, rest)
+            yield name, checked(program, folder, None, logged, output)
+            yield f"{name}, by the plainer reader", [] if found.line() + "\n" in output else [found.line()]
+        for name, logged, at in NOT_LEFT:
+            told = f"log: Damaged at page {at}"
+            yield name, checked(program, folder, None, logged, told=told)
+            found = wanted(None, [], logged)
+            yield f"{name}, by the plainer reader", [] if found == (None, told) else [f"it says {found}"]
 
 
 def sweep(program, logs, held=None, known=(), setup=SMALL):
@@ -496,6 +558,32 @@ def outputs_that_fail(program):
                 yield f"room for {room} bytes", wrong
 
 
+HOLE = 1 << 36
+
+
+def holes(program):
+    """Files that end with a hole of 64 GiB, which is not read, and one with data behind a hole."""
+    torn = lost(TWO, (2, 79, 80))
+    far = head() + B1, 1 << 24, B2
+    with tempfile.TemporaryDirectory() as folder:
+        for name, (front, at, more), output, told in [
+            ("two blocks and a hole", (TWO, 0, b""), line(2, 8, 1) + log_line(0, 2, 3, 0), None),
+            ("a torn block and a hole", (torn, 0, b""), line(1, 5, 1) + log_line(0, 1, 2, 1), None),
+            ("a head and a hole", (head(), 0, b""), line(0, 0, 0) + log_line(0, 0, 1, 0), None),
+            ("a hole alone", (b"", 0, b""), None, "log: BadMark at page 0"),
+            ("half a head and a hole", (head()[:2048], 0, b""), None, "log: HeadCheck at page 0"),
+            ("a block behind a hole", far, None, "log: Damaged at page 4096"),
+        ]:
+            files = Files(folder, None, front)
+            with open(files.log, "r+b") as file:
+                if more:
+                    file.seek(at)
+                    file.write(more)
+                file.truncate(HOLE)
+            error = {} if told is None else {"error": f"hhm: {told}\n", "status": status_of(told)}
+            yield name, run(program, files.case(output or "", **error))
+
+
 def long_logs(program):
     """A log of many blocks, and a block of many pages."""
     setup = SMALL._replace(rows=1_000, cols=1_000, limit=10**9, most=1_000_000)
@@ -511,7 +599,7 @@ def long_logs(program):
 
 
 PARTS = [
-    tables, told_first, nothing_changes, outputs_that_fail, cuts, flips, torn_blocks, shuffled, joins, long_logs,
+    tables, ends, told_first, nothing_changes, outputs_that_fail, cuts, flips, torn_blocks, shuffled, joins, holes, long_logs,
 ]  # fmt: skip
 
 

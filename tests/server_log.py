@@ -247,6 +247,16 @@ def a_torn_end_is_cut_off():
         check(f"{size} bytes: both at last", started("--log", path), stopped(2, 8))
 
 
+def a_hole_at_the_end_is_not_read():
+    """Behind two blocks a file has a hole of 64 GiB: a start takes no longer for it, and cuts it off."""
+    path, whole = in_folder("hole.log"), log([[FIVE], [THREE]])
+    for name, front, counted in [("", whole, (2, 8)), ("torn ", log_bytes.lost(whole, (2, 79, 80)), (1, 5))]:
+        write(path, front)
+        os.truncate(path, 1 << 36)
+        check(f"a {name}log and a hole", started("--log", path), stopped(*counted))
+        check(f"a {name}log and a hole: settled", in_log(path), whole[: PAGE * (1 + counted[0])])
+
+
 def bad_block(held):
     return log([[FIVE]]) + pages_of(1, held)
 
@@ -293,6 +303,39 @@ def damage_is_told_and_stays():
     lines = log_bytes.check_line([FIVE]) + "\nlog first 0 batches 1 pages 2 rest 1\n"
     check("a byte that is lost: check", hhm("check", none, "--log", path), (lines, "", 0))
     check("a byte that is lost", started("--log", path), stopped(1, 5))
+
+
+# Ten batches, and bytes of the last eight of their blocks that became 00 in a log: the first page that is `Damaged`.
+TEN = [(7, n, [(0, 0, n + 1)]) for n in range(10)]
+ZEROED = [
+    ("their batches", [(n, 24, 80) for n in range(3, 11)], 4),
+    ("their counts", [(n, 79, 80) for n in range(3, 11)], 4),
+    ("all but the last's first bytes", [*((n, 0, PAGE) for n in range(3, 10)), (10, 24, PAGE)], 10),
+    ("all but the last", [(n, 0, PAGE) for n in range(3, 10)], 10),
+    ("two of their counts", [(9, 79, 80), (10, 79, 80)], 10),
+]
+
+
+def zeros_over_acknowledged_blocks_are_told():
+    """Ten puts are acknowledged, and bytes of the last eight blocks become 00: no start takes the others alone."""
+    path, none = in_folder("zeroed.log"), in_folder("no.snap")
+    with Server([*SMALL, "--log", path], tcp=False) as at:
+        with at.link() as link:
+            for place, batch in enumerate(TEN):
+                total = (place + 1) * (place + 2) // 2
+                check(f"zeros: put {place}", asked(link, put_of(batch), 21), accepted(place, total))
+        kill(at)
+    whole = in_log(path)
+    check("zeros: ten blocks", whole, log([[batch] for batch in TEN]))
+    for name, spans, page in ZEROED:
+        held = log_bytes.lost(whole, *spans)
+        write(path, held)
+        told = ("", f"hhm: log: Damaged at page {page}\n", 3)
+        check(f"zeros over {name}: check", hhm("check", none, "--log", path), told)
+        check(f"zeros over {name}: a start", started("--log", path), told)
+        check(f"zeros over {name}: as before", content(path), held)
+    write(path, whole)
+    check("zeros: without them", started("--log", path), stopped(10, 55))
 
 
 # A snapshot's batches, a log, what is told of both, and the status.
@@ -566,6 +609,8 @@ def all_are_tried():
         a_stop_saves_and_begins_the_log_anew,
         long_batches_take_pages,
         a_torn_end_is_cut_off,
+        zeros_over_acknowledged_blocks_are_told,
+        a_hole_at_the_end_is_not_read,
         damage_is_told_and_stays,
         snapshots_and_logs_that_differ_are_told,
         a_lost_snapshot_is_a_gap,

@@ -1,64 +1,72 @@
 -- What is read of a file is read of its bytes.
 use Rattle.std.proofs.Common.{◌≡◌, ◌⊎◌, inl, inr, ⊎_elim, ℕ, zero, suc, ◌+◌, ◌-◌, ◌*◌, ◌^◌, ◌<◌, ◌≤◌, Bool, true, false, cond, List, [], ◌∷◌, ◌++◌, length, get_or, refl, sym, ◌∙◌, ap, subst, arith, append_assoc, length-append}
 use Rattle.std.specs.Prelude.{◌==◌, ◌&&◌, replicate, Ok, Err}
+use Rattle.std.specs.Int.{w32, to_be_bytes}
 use Rattle.std.specs.List.{AllByRecursion}
 use Rattle.std.proofs.lemmas.List.{get_or-append-add, append-nil, length_push, get_or_past, get_or_append_left, get_or_at}
 use Rattle.std.proofs.lemmas.Bool.{cases_lt, cases_eq, cases_Bool, cond-true, cond-false}
 use Rattle.log_page.specs.Pages.{kind_of, pages_field, chunk_field, Lost, is_next, is_whole}
 use Rattle.log_page.proofs.PageFields.{PageFits, length-page_of}
 use Rattle.log_blocks.specs.Blocks.{Page, Block, batches_in, pages_from, block_pages, log_pages, place_behind, FillsPages, IsBlock, blank_page, LostPages}
-use Rattle.log_blocks.specs.Reading.{is_allowed, known_pages, could_be_torn, damaged_at, with_whole, ended, read_from, read_pages, fault_at}
+use Rattle.log_blocks.specs.Reading.{is_allowed, known_pages, known_shown, could_be_torn, damaged_at, with_whole, ended, read_from, read_pages, fault_at}
 use Rattle.log_blocks.specs.Files.{IsSame, bytes_from, pages_of, page_count, recovered, joined, log_bytes, next_bytes, MayHold}
 use Rattle.log_blocks.specs.declared.fault.LogKind.TheVariants.{Damaged}
 use Rattle.log_blocks.proofs.Torn.{settled_log_read, blank_read, blank_could_be_torn, torn_log_read, place-le, length-pages_from}
 
 -- ---- blank pages behind the last one say nothing
 
-torn_with_blanks : (place page known n : ℕ) (ps : List Page) →
-    could_be_torn place page known (ps ++ replicate n blank_page) ≡ could_be_torn place page known ps
+torn_with_blanks : (place page known n : ℕ) (shown : List ℕ) (ps : List Page) →
+    could_be_torn place page known shown (ps ++ replicate n blank_page) ≡ could_be_torn place page known shown ps
 unfolding could_be_torn
-torn_with_blanks place page known n [] = blank_could_be_torn place page known n
-torn_with_blanks place page known n (p ∷ ps) =
-    ap (λ b. is_allowed (kind_of p) place page known p && b)
-    (torn_with_blanks place (page + 1) (known_pages (kind_of p) known p) n ps)
+torn_with_blanks place page known n shown [] = blank_could_be_torn place page known n shown
+torn_with_blanks place page known n shown (p ∷ ps) =
+    ap (λ b. is_allowed (kind_of p) place page known shown p && b)
+    (torn_with_blanks place (page + 1) (known_pages (kind_of p) known p) n (known_shown (kind_of p) shown p) ps)
 
 -- the page that may not stand is the same
-damaged_with_blanks : (place page known n : ℕ) (ps : List Page) → could_be_torn place page known ps ≡ false →
-    damaged_at place page known (ps ++ replicate n blank_page) ≡ damaged_at place page known ps
+damaged_with_blanks : (place page known n : ℕ) (shown : List ℕ) (ps : List Page) →
+    could_be_torn place page known shown ps ≡ false →
+    damaged_at place page known shown (ps ++ replicate n blank_page) ≡ damaged_at place page known shown ps
 unfolding could_be_torn damaged_at
-damaged_with_blanks place page known n [] torn = absurd (wrong torn)
+damaged_with_blanks place page known n shown [] torn = absurd (wrong torn)
   where
     wrong : true ≡ false → ⊥
     wrong h = cc
-damaged_with_blanks place page known n (p ∷ ps) torn =
-    elim (cases_Bool (is_allowed (kind_of p) place page known p)) [
+damaged_with_blanks place page known n shown (p ∷ ps) torn =
+    let more = known_pages (kind_of p) known p in
+    let told = known_shown (kind_of p) shown p in
+    elim (cases_Bool (is_allowed (kind_of p) place page known shown p)) [
       | inl stands ↦
-          let later : could_be_torn place (page + 1) (known_pages (kind_of p) known p) ps ≡ false =
-          sym (ap (λ b. b && could_be_torn place (page + 1) (known_pages (kind_of p) known p) ps) stands) ∙ torn in
-          cond-true (is_allowed (kind_of p) place page known p) _ _ stands
-          ∙ damaged_with_blanks place (page + 1) (known_pages (kind_of p) known p) n ps later
-          ∙ sym (cond-true (is_allowed (kind_of p) place page known p)
-          (damaged_at place (page + 1) (known_pages (kind_of p) known p) ps) page stands)
+          let later : could_be_torn place (page + 1) (known_pages (kind_of p) known p)
+          (known_shown (kind_of p) shown p) ps ≡ false =
+          sym (ap (λ b. b && could_be_torn place (page + 1) (known_pages (kind_of p) known p)
+          (known_shown (kind_of p) shown p) ps) stands) ∙ torn in
+          cond-true (is_allowed (kind_of p) place page known shown p) _ _ stands
+          ∙ damaged_with_blanks place (page + 1) more n told ps later
+          ∙ sym (cond-true (is_allowed (kind_of p) place page known shown p)
+          (damaged_at place (page + 1) (known_pages (kind_of p) known p) (known_shown (kind_of p) shown p) ps) page
+          stands)
       | inr falls ↦
-          cond-false (is_allowed (kind_of p) place page known p) _ _ falls
-          ∙ sym (cond-false (is_allowed (kind_of p) place page known p)
-          (damaged_at place (page + 1) (known_pages (kind_of p) known p) ps) page falls)
+          cond-false (is_allowed (kind_of p) place page known shown p) _ _ falls
+          ∙ sym (cond-false (is_allowed (kind_of p) place page known shown p)
+          (damaged_at place (page + 1) (known_pages (kind_of p) known p) (known_shown (kind_of p) shown p) ps) page
+          falls)
     ]
 
-ended_with_blanks : (place from page known n : ℕ) (ps : List Page) →
-    ended place from page known (ps ++ replicate n blank_page) ≡ ended place from page known ps
-ended_with_blanks place from page known n ps =
-    elim (cases_Bool (could_be_torn place page known ps)) [
-      | inl torn ↦ cond-true (could_be_torn place page known (ps ++ replicate n blank_page)) _ _
-          (torn_with_blanks place page known n ps ∙ torn)
-          ∙ sym (cond-true (could_be_torn place page known ps) (Ok [])
-          (Err (fault_at Damaged (from + damaged_at place page known ps))) torn)
+ended_with_blanks : (place from page known n : ℕ) (shown : List ℕ) (ps : List Page) →
+    ended place from page known shown (ps ++ replicate n blank_page) ≡ ended place from page known shown ps
+ended_with_blanks place from page known n shown ps =
+    elim (cases_Bool (could_be_torn place page known shown ps)) [
+      | inl torn ↦ cond-true (could_be_torn place page known shown (ps ++ replicate n blank_page)) _ _
+          (torn_with_blanks place page known n shown ps ∙ torn)
+          ∙ sym (cond-true (could_be_torn place page known shown ps) (Ok [])
+          (Err (fault_at Damaged (from + damaged_at place page known shown ps))) torn)
       | inr not ↦
-          cond-false (could_be_torn place page known (ps ++ replicate n blank_page)) _ _
-          (torn_with_blanks place page known n ps ∙ not)
-          ∙ ap (λ k. Err (fault_at Damaged (from + k))) (damaged_with_blanks place page known n ps not)
-          ∙ sym (cond-false (could_be_torn place page known ps) (Ok [])
-          (Err (fault_at Damaged (from + damaged_at place page known ps))) not)
+          cond-false (could_be_torn place page known shown (ps ++ replicate n blank_page)) _ _
+          (torn_with_blanks place page known n shown ps ∙ not)
+          ∙ ap (λ k. Err (fault_at Damaged (from + k))) (damaged_with_blanks place page known n shown ps not)
+          ∙ sym (cond-false (could_be_torn place page known shown ps) (Ok [])
+          (Err (fault_at Damaged (from + damaged_at place page known shown ps))) not)
     ]
 
 same_choice : {X : Type 0} (b : Bool) (x x' y y' : X) → x ≡ x' → y ≡ y' → cond b x y ≡ cond b x' y'
@@ -74,7 +82,7 @@ read_with_blanks place from known n made (p ∷ ps) =
     (same_choice (length made + 1 == pages_field p) _ _ _ _
     (ap (with_whole from block) (read_with_blanks (place + batches_in block) (from + length block) 0 n [] ps))
     (read_with_blanks place from (pages_field p) n block ps))
-    (ended_with_blanks place from (length made) known n (p ∷ ps))
+    (ended_with_blanks place from (length made) known n (to_be_bytes w32 known) (p ∷ ps))
 
 -- ---- bytes and pages of files
 

@@ -1,3 +1,4 @@
+pub mod Counts
 pub mod FilePages
 pub mod ScanLemmas
 pub mod Sound

@@ -1,7 +1,7 @@
 -- One page more of a scan.
 use Rattle.std.proofs.Common.{◌≡◌, ◌≢◌, inl, inr, ℕ, ◌+◌, ◌-◌, ◌*◌, ◌<◌, ◌≤◌, Bool, true, false, cond, List, [], ◌∷◌, ◌++◌, length, take, drop, refl, sym, ◌∙◌, ap, subst, arith, append_assoc, length-append}
 use Rattle.std.specs.Prelude.{◌==◌, ◌&&◌, not, Result, Ok, Err}
-use Rattle.std.specs.Int.{w64, from_be_bytes}
+use Rattle.std.specs.Int.{w32, w64, to_be_bytes, from_be_bytes}
 use Rattle.std.proofs.lemmas.Bool.{and_parts, and_from, not-true, eq-eqb, ne_eqb, cases_Bool, cond-true, cond-false}
 use Rattle.std.proofs.lemmas.List.{append-nil, length_push, drop-append-le, drop_all}
 use Rattle.std.proofs.lemmas.List.Sums.{sum_by-append}
@@ -9,7 +9,7 @@ use Rattle.log_page.specs.Pages.{kind_of, pages_field, chunk_field, is_next, is_
 use Rattle.log_page.specs.declared.page.PageKind.{PageKind}
 use Rattle.log_page.specs.declared.page.PageKind.TheVariants.{Empty, Whole, Short, Spoilt}
 use Rattle.log_blocks.specs.Blocks.{Page, Block, batches_in, can_have, is_sound, block_pages, log_pages}
-use Rattle.log_blocks.specs.Reading.{is_allowed, known_pages, used_by, could_be_torn, damaged_at, with_block, with_blocks, ended, read_from, read_pages, fault_at}
+use Rattle.log_blocks.specs.Reading.{is_allowed, known_pages, known_shown, used_by, could_be_torn, damaged_at, with_block, with_blocks, ended, read_from, read_pages, fault_at}
 use Rattle.log_blocks.specs.Files.{bytes_from, pages_of, page_count, recovered}
 use Rattle.log_blocks.specs.Scanning.{HasTaken, IsScanned, goes_on, is_next_whole, last_begin, used_pages}
 use Rattle.log_blocks.specs.declared.fault.LogFault.{LogFault}
@@ -60,36 +60,45 @@ used_more n taken p le = ap used_pages (drop-append-le n taken (p ∷ []) le) �
 
 -- ---- a page that isn't the next whole one
 
-torn_page : (place page known : ℕ) (p : Page) (ps : List Page) → is_allowed (kind_of p) place page known p ≡ true →
-    could_be_torn place page known (p ∷ ps) ≡ could_be_torn place (page + 1) (known_pages (kind_of p) known p) ps
+torn_page : (place page known : ℕ) (shown : List ℕ) (p : Page) (ps : List Page) →
+    is_allowed (kind_of p) place page known shown p ≡ true →
+    could_be_torn place page known shown (p ∷ ps) ≡
+    could_be_torn place (page + 1) (known_pages (kind_of p) known p) (known_shown (kind_of p) shown p) ps
 unfolding could_be_torn
-torn_page place page known p ps stands =
-    ap (λ b. b && could_be_torn place (page + 1) (known_pages (kind_of p) known p) ps) stands
+torn_page place page known shown p ps stands =
+    ap (λ b. b && could_be_torn place (page + 1) (known_pages (kind_of p) known p) (known_shown (kind_of p) shown p) ps)
+    stands
 
-damaged_page : (place page known : ℕ) (p : Page) (ps : List Page) → is_allowed (kind_of p) place page known p ≡ true →
-    damaged_at place page known (p ∷ ps) ≡ damaged_at place (page + 1) (known_pages (kind_of p) known p) ps
+damaged_page : (place page known : ℕ) (shown : List ℕ) (p : Page) (ps : List Page) →
+    is_allowed (kind_of p) place page known shown p ≡ true →
+    damaged_at place page known shown (p ∷ ps) ≡
+    damaged_at place (page + 1) (known_pages (kind_of p) known p) (known_shown (kind_of p) shown p) ps
 unfolding damaged_at
-damaged_page place page known p ps stands = cond-true (is_allowed (kind_of p) place page known p) _ _ stands
+damaged_page place page known shown p ps stands =
+    cond-true (is_allowed (kind_of p) place page known shown p) _ _ stands
 
-ended_allowed : (place from page known : ℕ) (p : Page) (ps : List Page) →
-    is_allowed (kind_of p) place page known p ≡ true →
-    ended place from page known (p ∷ ps) ≡ ended place from (page + 1) (known_pages (kind_of p) known p) ps
-ended_allowed place from page known p ps stands =
-    ap (λ b. cond b (Ok []) (Err (fault_at Damaged (from + damaged_at place page known (p ∷ ps)))))
-    (torn_page place page known p ps stands)
-    ∙ ap (λ n. cond (could_be_torn place (page + 1) (known_pages (kind_of p) known p) ps) (Ok [])
-    (Err (fault_at Damaged (from + n)))) (damaged_page place page known p ps stands)
+ended_allowed : (place from page known : ℕ) (shown : List ℕ) (p : Page) (ps : List Page) →
+    is_allowed (kind_of p) place page known shown p ≡ true →
+    ended place from page known shown (p ∷ ps) ≡
+    ended place from (page + 1) (known_pages (kind_of p) known p) (known_shown (kind_of p) shown p) ps
+ended_allowed place from page known shown p ps stands =
+    ap (λ b. cond b (Ok []) (Err (fault_at Damaged (from + damaged_at place page known shown (p ∷ ps)))))
+    (torn_page place page known shown p ps stands)
+    ∙ ap (λ n. cond (could_be_torn place (page + 1) (known_pages (kind_of p) known p)
+    (known_shown (kind_of p) shown p) ps) (Ok []) (Err (fault_at Damaged (from + n))))
+    (damaged_page place page known shown p ps stands)
 
-ended_refused : (place from page known : ℕ) (p : Page) (ps : List Page) →
-    is_allowed (kind_of p) place page known p ≡ false →
-    ended place from page known (p ∷ ps) ≡ Err (fault_at Damaged (from + page))
+ended_refused : (place from page known : ℕ) (shown : List ℕ) (p : Page) (ps : List Page) →
+    is_allowed (kind_of p) place page known shown p ≡ false →
+    ended place from page known shown (p ∷ ps) ≡ Err (fault_at Damaged (from + page))
 unfolding could_be_torn damaged_at
-ended_refused place from page known p ps falls =
-    cond-false (could_be_torn place page known (p ∷ ps)) _ _
-    (ap (λ b. b && could_be_torn place (page + 1) (known_pages (kind_of p) known p) ps) falls)
+ended_refused place from page known shown p ps falls =
+    cond-false (could_be_torn place page known shown (p ∷ ps)) _ _
+    (ap (λ b. b && could_be_torn place (page + 1) (known_pages (kind_of p) known p)
+    (known_shown (kind_of p) shown p) ps) falls)
     ∙ ap (λ n. Err (fault_at Damaged (from + n)))
-    (cond-false (is_allowed (kind_of p) place page known p)
-    (damaged_at place (page + 1) (known_pages (kind_of p) known p) ps) page falls)
+    (cond-false (is_allowed (kind_of p) place page known shown p)
+    (damaged_at place (page + 1) (known_pages (kind_of p) known p) (known_shown (kind_of p) shown p) ps) page falls)
 
 module _ (first : ℕ) (s : BlockScan) (blocks : List Block) (made : Block) (taken : List Page)
     (has : HasTaken first s blocks made taken) (p : Page) where
@@ -101,7 +110,7 @@ module _ (first : ℕ) (s : BlockScan) (blocks : List Block) (made : Block) (tak
   from_here rest = has.reads (p ∷ rest)
 
   goes_ended : (s.torn ≡ false → (is_whole (kind_of p) && is_next s.place s.made s.pages p) ≡ false) →
-      (rest : List Page) → goes_on s made (p ∷ rest) ≡ ended s.place s.page s.made s.pages (p ∷ rest)
+      (rest : List Page) → goes_on s made (p ∷ rest) ≡ ended s.place s.page s.made s.pages s.shown (p ∷ rest)
   goes_ended other rest =
       elim (cases_Bool s.torn) [
         | inl torn ↦ cond-true s.torn _ _ torn
@@ -110,27 +119,30 @@ module _ (first : ℕ) (s : BlockScan) (blocks : List Block) (made : Block) (tak
             cond-false s.torn _ _ not
             ∙ other_page s.place s.page s.pages made p rest
             (ap (λ n. is_whole (kind_of p) && is_next s.place n s.pages p) long ∙ other not)
-            ∙ ap (λ n. ended s.place s.page n s.pages (p ∷ rest)) long
+            ∙ ap (λ n. ended s.place s.page n s.pages (to_be_bytes w32 s.pages) (p ∷ rest)) long
+            ∙ ap (λ (l : List ℕ). ended s.place s.page s.made s.pages l (p ∷ rest)) (sym (has.shown not))
       ]
 
   pub torn_taken : (s.torn ≡ false → (is_whole (kind_of p) && is_next s.place s.made s.pages p) ≡ false) →
-      is_allowed (kind_of p) s.place s.made s.pages p ≡ true
+      is_allowed (kind_of p) s.place s.made s.pages s.shown p ≡ true
       → (after : BlockScan) → after.place ≡ s.place → after.page ≡ s.page → after.last ≡ s.last →
-      after.made ≡ s.made + 1 → after.pages ≡ known_pages (kind_of p) s.pages p → after.torn ≡ true
+      after.made ≡ s.made + 1 → after.pages ≡ known_pages (kind_of p) s.pages p →
+      after.shown ≡ known_shown (kind_of p) s.shown p → after.torn ≡ true
       → after.used ≡ s.used + used_by (kind_of p)
       → HasTaken first after blocks made (taken ++ p ∷ [])
-  torn_taken other stands after place page last count pages torn used =
+  torn_taken other stands after place page last count pages shown torn used =
       let reads : (rest : List Page) →
       read_pages first ((taken ++ p ∷ []) ++ rest) ≡ with_blocks blocks (goes_on after made rest) =
       λ rest. ap (read_pages first) (append_assoc taken (p ∷ []) rest) ∙ from_here rest ∙ ap (with_blocks blocks) (
       goes_ended other rest
-      ∙ ended_allowed s.place s.page s.made s.pages p rest stands
+      ∙ ended_allowed s.place s.page s.made s.pages s.shown p rest stands
       ∙ sym (
       cond-true after.torn _ _ torn
-      ∙ ap (λ n. ended n after.page after.made after.pages rest) place
-      ∙ ap (λ n. ended s.place n after.made after.pages rest) page
-      ∙ ap (λ n. ended s.place s.page n after.pages rest) count
-      ∙ ap (λ n. ended s.place s.page (s.made + 1) n rest) pages
+      ∙ ap (λ n. ended n after.page after.made after.pages after.shown rest) place
+      ∙ ap (λ n. ended s.place n after.made after.pages after.shown rest) page
+      ∙ ap (λ n. ended s.place s.page n after.pages after.shown rest) count
+      ∙ ap (λ n. ended s.place s.page (s.made + 1) n after.shown rest) pages
+      ∙ ap (λ (l : List ℕ). ended s.place s.page (s.made + 1) (known_pages (kind_of p) s.pages p) l rest) shown
       )
       ) in
       record {
@@ -139,6 +151,7 @@ module _ (first : ℕ) (s : BlockScan) (blocks : List Block) (made : Block) (tak
         begins = page ∙ has.begins;
         lasts = last ∙ has.lasts;
         made_long = λ not. absurd (wrong (sym torn ∙ not));
+        shown = λ not. absurd (wrong (sym torn ∙ not));
         told = λ not. absurd (wrong (sym torn ∙ not));
         taken_long = omega (arith, has.taken_long, page, count, length_push taken p);
         used = used ∙ ap (λ n. n + used_by (kind_of p)) has.used
@@ -149,11 +162,12 @@ module _ (first : ℕ) (s : BlockScan) (blocks : List Block) (made : Block) (tak
       wrong h = cc
 
   pub torn_refused : (s.torn ≡ false → (is_whole (kind_of p) && is_next s.place s.made s.pages p) ≡ false) →
-      is_allowed (kind_of p) s.place s.made s.pages p ≡ false
+      is_allowed (kind_of p) s.place s.made s.pages s.shown p ≡ false
       → (rest : List Page) → read_pages first (taken ++ p ∷ rest) ≡ Err (fault_at Damaged (s.page + s.made))
   torn_refused other falls rest =
       from_here rest
-      ∙ ap (with_blocks blocks) (goes_ended other rest ∙ ended_refused s.place s.page s.made s.pages p rest falls)
+      ∙ ap (with_blocks blocks) (goes_ended other rest
+      ∙ ended_refused s.place s.page s.made s.pages s.shown p rest falls)
       ∙ with_blocks_err blocks (fault_at Damaged (s.page + s.made))
 
   -- ---- the next whole page
@@ -191,10 +205,11 @@ module _ (first : ℕ) (s : BlockScan) (blocks : List Block) (made : Block) (tak
         (λ not_none. some (λ is. not_none (long ∙ is)) ∙ sym (has.told not (omega arith)))
 
     pub part_taken : s.made + 1 ≢ pages_field p → (after : BlockScan) → after.place ≡ s.place → after.page ≡ s.page →
-        after.last ≡ s.last → after.made ≡ s.made + 1 → after.pages ≡ pages_field p → after.batches ≡ batches →
-        after.torn ≡ false → after.used ≡ s.used + 1
+        after.last ≡ s.last → after.made ≡ s.made + 1 → after.pages ≡ pages_field p →
+        after.shown ≡ to_be_bytes w32 (pages_field p) → after.batches ≡ batches → after.torn ≡ false →
+        after.used ≡ s.used + 1
         → HasTaken first after blocks (made ++ chunk_field p ∷ []) (taken ++ p ∷ [])
-    part_taken inner after place page last count pages batch torn used =
+    part_taken inner after place page last count pages shown batch torn used =
         let more : (length made + 1 == pages_field p) ≡ false =
         ne_eqb _ _ (λ is. inner (ap (λ n. n + 1) (sym long) ∙ is)) in
         let reads : (rest : List Page) →
@@ -216,6 +231,7 @@ module _ (first : ℕ) (s : BlockScan) (blocks : List Block) (made : Block) (tak
           begins = page ∙ has.begins;
           lasts = last ∙ has.lasts;
           made_long = λ is. omega (arith, length_push made (chunk_field p), long, count);
+          shown = λ is. shown ∙ ap (to_be_bytes w32) (sym pages);
           told = λ is has_some. told_of ∙ sym batch;
           taken_long = omega (arith, has.taken_long, page, count, length_push taken p);
           used = used ∙ ap (λ n. n + 1) has.used
@@ -245,9 +261,9 @@ module _ (first : ℕ) (s : BlockScan) (blocks : List Block) (made : Block) (tak
 
       pub last_taken : is_sound (made ++ chunk_field p ∷ []) ≡ true → (after : BlockScan) →
           after.place ≡ s.place + batches → after.page ≡ s.page + pages_field p → after.last ≡ s.page → after.made ≡ 0 →
-          after.pages ≡ 0 → after.torn ≡ false → after.used ≡ 0
+          after.pages ≡ 0 → after.shown ≡ to_be_bytes w32 0 → after.torn ≡ false → after.used ≡ 0
           → HasTaken first after (blocks ++ (made ++ chunk_field p ∷ []) ∷ []) [] (taken ++ p ∷ [])
-      last_taken sound after place page last count pages torn used =
+      last_taken sound after place page last count pages shown torn used =
           let b = made ++ chunk_field p ∷ [] in
           let total = page_total first blocks b in
           let places : s.place + batches_in b ≡ after.place = ap (λ n. s.place + n) told_of ∙ sym place in
@@ -275,6 +291,7 @@ module _ (first : ℕ) (s : BlockScan) (blocks : List Block) (made : Block) (tak
             begins = sym begins ∙ omega (arith, total, has.begins);
             lasts = last ∙ has.begins ∙ sym (last_push first 1 0 blocks b);
             made_long = λ is. sym count;
+            shown = λ is. shown ∙ ap (to_be_bytes w32) (sym pages);
             told = λ is has_some. absurd (omega arith);
             taken_long = omega (arith, has.taken_long, page, count, all, length_push taken p);
             used = used ∙ sym (ap used_pages (drop_all (length (log_pages first (blocks ++ b ∷ []))) (taken ++ p ∷ [])

@@ -1,19 +1,21 @@
 -- What is read is the log of the blocks that were read, and behind it what could be one in the making; and a fault is
 -- the
 -- first one.
-use Rattle.std.proofs.Common.{◌≡◌, ◌≢◌, ◌⊎◌, inl, inr, ⊎_elim, ℕ, suc, ◌+◌, ◌^◌, ◌<◌, Bool, true, false, cond, nat_lt, List, [], ◌∷◌, ◌++◌, length, refl, sym, ◌∙◌, ap, subst, arith, append_assoc, length-append}
-use Rattle.std.specs.Prelude.{◌==◌, ◌&&◌, ◌||◌, Result, Ok, Err}
+use Rattle.std.proofs.Common.{◌≡◌, ◌≢◌, ◌⊎◌, inl, inr, ⊎_elim, ℕ, suc, ◌+◌, ◌^◌, ◌<◌, Bool, true, false, cond, List, [], ◌∷◌, ◌++◌, length, refl, sym, ◌∙◌, ap, subst, arith, append_assoc, length-append}
+use Rattle.std.specs.Prelude.{◌==◌, ◌&&◌, Result, Ok, Err}
+use Rattle.std.specs.Int.{w32, to_be_bytes}
 use Rattle.std.specs.List.{AllByRecursion}
-use Rattle.std.proofs.lemmas.Bool.{and_parts, and_from, or_cases, eqb-true, eqb-false, ltb-true, cases_Bool, cond-true, cond-false, both_ways, ne_eqb}
+use Rattle.std.proofs.lemmas.Bool.{and_parts, and_from, eqb-true, eqb-false, cases_Bool, cond-true, cond-false, both_ways, ne_eqb}
 use Rattle.std.proofs.lemmas.List.{append-nil, length_push, length-drop}
-use Rattle.log_page.specs.Pages.{kind_of, page_of, kind_field, place_field, page_field, pages_field, chunk_field, is_next, is_whole, IsBytes}
+use Rattle.log_page.specs.Pages.{kind_of, page_of, pages_field, chunk_field, is_next, is_whole, is_lost_check, IsBytes}
 use Rattle.log_page.specs.declared.page.PageKind.{PageKind}
 use Rattle.log_page.specs.declared.page.PageKind.TheVariants.{Empty, Whole, Short, Spoilt}
-use Rattle.log_page.proofs.Unsealed.{few, unsealed}
+use Rattle.log_page.proofs.Unsealed.{unsealed}
 use Rattle.log_blocks.specs.Blocks.{Page, Block, batches_in, is_sound, pages_from, block_pages, log_pages, place_behind, FillsPages, IsBlock, ArePages}
-use Rattle.log_blocks.specs.Reading.{is_allowed, known_pages, could_be_torn, damaged_at, with_block, with_blocks, read_from, read_pages, fault_at, Reads, HasFault}
+use Rattle.log_blocks.specs.Reading.{is_allowed, known_pages, known_shown, could_be_torn, IsTorn, damaged_at, with_block, with_blocks, read_from, read_pages, fault_at, Reads, HasFault}
 use Rattle.log_blocks.specs.declared.fault.LogFault.{LogFault}
 use Rattle.log_blocks.specs.declared.fault.LogKind.TheVariants.{Damaged, BadBlock}
+use Rattle.log_blocks.proofs.Counts.{small, next_pages, agreed_start, shown_lost, torn_is_left, torn_passes, torn_front}
 use Rattle.log_blocks.proofs.Torn.{next_page, other_page, none_read, block_read, log_read, with_blocks_ok, length-pages_from}
 
 whole_kind : (k : PageKind) → is_whole k ≡ true → k ≡ Whole
@@ -30,22 +32,6 @@ whole_kind Spoilt h = absurd (wrong h)
   where
     wrong : false ≡ true → ⊥
     wrong h = cc
-
--- a number of four bytes
-small : (p : Page) → IsBytes p → pages_field p < 2 ^ 32
-small p bytes = omega (arith, few p 20 4 0 bytes, few p 20 4 1 bytes, few p 20 4 2 bytes, few p 20 4 3 bytes)
-
-pub next_pages : (place page known : ℕ) (p : Page) → is_next place page known p ≡ true →
-    (page < pages_field p) × ((known ≡ 0) ⊎ (pages_field p ≡ known))
-next_pages place page known p next =
-    let last = and_parts ((kind_field p == 1) && (place_field p == place) && (page_field p == page) && nat_lt page
-    (pages_field p)) ((known == 0) || (pages_field p == known)) next in
-    let lt = and_parts ((kind_field p == 1) && (place_field p == place) && (page_field p == page))
-    (nat_lt page (pages_field p)) last.0 in (
-      ltb-true page (pages_field p) lt.1,
-      ⊎_elim (λ none. inl (eqb-true known 0 none)) (λ is. inr (eqb-true (pages_field p) known is))
-          (or_cases (known == 0) (pages_field p == known) last.1),
-    )
 
 pages_append : (place j n : ℕ) (xs ys : Block) →
     pages_from place j n (xs ++ ys) ≡ pages_from place j n xs ++ pages_from place (j + length xs) n ys
@@ -88,54 +74,59 @@ one_more place m made chunk p ps is =
 
 -- ---- what could be torn
 
-torn_cons : (place page known : ℕ) (p : Page) (ps : List Page) →
-    could_be_torn place page known (p ∷ ps) ≡
-    (is_allowed (kind_of p) place page known p && could_be_torn place (page + 1) (known_pages (kind_of p) known p) ps)
-unfolding could_be_torn
-torn_cons place page known p ps = refl
+-- the bytes of the number of pages that a whole page has told, or 00 where none has
+abbrev told_bytes : ℕ → List ℕ
+told_bytes known = to_be_bytes w32 known
 
-torn_none : (place page known : ℕ) → could_be_torn place page known [] ≡ true
+torn_cons : (place page known : ℕ) (shown : List ℕ) (p : Page) (ps : List Page) →
+    could_be_torn place page known shown (p ∷ ps) ≡
+    (is_allowed (kind_of p) place page known shown p &&
+    could_be_torn place (page + 1) (known_pages (kind_of p) known p) (known_shown (kind_of p) shown p) ps)
 unfolding could_be_torn
-torn_none place page known = refl
+torn_cons place page known shown p ps = refl
+
+torn_none : (place page known : ℕ) (shown : List ℕ) → could_be_torn place page known shown [] ≡ true
+unfolding could_be_torn
+torn_none place page known shown = refl
 
 -- a whole page that is next says nothing against those behind it
 torn_whole : (place page known : ℕ) (p : Page) (ps : List Page) → kind_of p ≡ Whole →
     is_next place page known p ≡ true →
-    could_be_torn place page known (p ∷ ps) ≡ could_be_torn place (page + 1) (pages_field p) ps
+    could_be_torn place page known (told_bytes known) (p ∷ ps) ≡
+    could_be_torn place (page + 1) (pages_field p) (told_bytes (pages_field p)) ps
 torn_whole place page known p ps whole next =
-    torn_cons place page known p ps
-    ∙ ap (λ k. is_allowed k place page known p && could_be_torn place (page + 1) (known_pages k known p) ps) whole
-    ∙ ap (λ b. b && could_be_torn place (page + 1) (pages_field p) ps) next
-
--- what could be torn could be torn further on
-pub torn_front : (place page known : ℕ) (xs ys : List Page) → could_be_torn place page known (xs ++ ys) ≡ true →
-    could_be_torn place page known xs ≡ true
-torn_front place page known [] ys torn = torn_none place page known
-torn_front place page known (p ∷ ps) ys torn =
-    let parts = and_parts _ _ (sym (torn_cons place page known p (ps ++ ys)) ∙ torn) in
-    torn_cons place page known p ps
-    ∙ and_from _ _ parts.0 (torn_front place (page + 1) (known_pages (kind_of p) known p) ps ys parts.1)
+    let which : (known ≡ 0) ⊎ (known ≡ pages_field p) =
+    ⊎_elim (λ none. inl none) (λ is. inr (sym is)) (next_pages place page known p next).1 in
+    let told = agreed_start (pages_field p) known which in
+    let stands : is_allowed Whole place page known (told_bytes known) p ≡ true =
+    and_from (is_next place page known p) (is_lost_check (told_bytes known) (to_be_bytes w32 (pages_field p))) next
+    (shown_lost (pages_field p) (told_bytes known) told.left) in
+    torn_cons place page known (told_bytes known) p ps
+    ∙ ap (λ k. is_allowed k place page known (told_bytes known) p && could_be_torn place (page + 1)
+    (known_pages k known p) (known_shown k (told_bytes known) p) ps) whole
+    ∙ ap (λ b. b && could_be_torn place (page + 1) (pages_field p) (told_bytes (pages_field p)) ps) stands
 
 -- where pages couldn't be torn, the first that may not stand, and those before it and behind it
-record Parted (place page known : ℕ) (ps : List Page) : Type 0 where
+record Parted (place page known : ℕ) (shown : List ℕ) (ps : List Page) : Type 0 where
   front : List Page
   bad : Page
   behind : List Page
   whole : ps ≡ front ++ bad ∷ behind
-  torn : could_be_torn place page known front ≡ true
-  refused : could_be_torn place page known (front ++ bad ∷ []) ≡ false
-  numbered : damaged_at place page known ps ≡ page + length front
+  torn : could_be_torn place page known shown front ≡ true
+  refused : could_be_torn place page known shown (front ++ bad ∷ []) ≡ false
+  numbered : damaged_at place page known shown ps ≡ page + length front
 
-parted : (place page known : ℕ) (ps : List Page) → could_be_torn place page known ps ≡ false →
-    Parted place page known ps
+parted : (place page known : ℕ) (shown : List ℕ) (ps : List Page) → could_be_torn place page known shown ps ≡ false →
+    Parted place page known shown ps
 unfolding could_be_torn damaged_at
-parted place page known [] not = absurd (wrong not)
+parted place page known shown [] not = absurd (wrong not)
   where
     wrong : true ≡ false → ⊥
     wrong h = cc
-parted place page known (p ∷ ps) not =
+parted place page known shown (p ∷ ps) not =
     let more = known_pages (kind_of p) known p in
-    elim (cases_Bool (is_allowed (kind_of p) place page known p)) [
+    let told = known_shown (kind_of p) shown p in
+    elim (cases_Bool (is_allowed (kind_of p) place page known shown p)) [
       | inr falls ↦ record {
         front = [];
         bad = p;
@@ -143,26 +134,37 @@ parted place page known (p ∷ ps) not =
         whole = refl;
         torn = refl;
         refused = ap (λ b. b && true) falls;
-        numbered = cond-false (is_allowed (kind_of p) place page known p) (damaged_at place (page + 1) more ps) page
-            falls ∙ omega arith;
+        numbered = cond-false (is_allowed (kind_of p) place page known shown p)
+            (damaged_at place (page + 1) more told ps) page falls ∙ omega arith;
       }
       | inl stands ↦
-          let rest : Parted place (page + 1) more ps =
-          parted place (page + 1) more ps (sym (ap (λ b. b && could_be_torn place (page + 1) more ps) stands) ∙ not)
+          let rest : Parted place (page + 1) more told ps =
+          parted place (page + 1) more told ps
+          (sym (ap (λ b. b && could_be_torn place (page + 1) more told ps) stands) ∙ not)
           in
           record {
             front = p ∷ rest.front;
             bad = rest.bad;
             behind = rest.behind;
             whole = ap (λ (l : List Page). p ∷ l) rest.whole;
-            torn = and_from (is_allowed (kind_of p) place page known p) (could_be_torn place (page + 1) more rest.front)
-                stands rest.torn;
-            refused = ap (λ b. b && could_be_torn place (page + 1) more (rest.front ++ rest.bad ∷ [])) stands
+            torn = and_from (is_allowed (kind_of p) place page known shown p)
+                (could_be_torn place (page + 1) more told rest.front) stands rest.torn;
+            refused = ap (λ b. b && could_be_torn place (page + 1) more told (rest.front ++ rest.bad ∷ [])) stands
                 ∙ rest.refused;
-            numbered = cond-true (is_allowed (kind_of p) place page known p) (damaged_at place (page + 1) more ps) page
-                stands ∙ rest.numbered ∙ omega arith;
+            numbered = cond-true (is_allowed (kind_of p) place page known shown p)
+                (damaged_at place (page + 1) more told ps) page stands ∙ rest.numbered ∙ omega arith;
           }
     ]
+
+-- ---- lists of pages
+
+are_append : (xs ys : List Page) → ArePages xs → ArePages ys → ArePages (xs ++ ys)
+are_append [] ys left right = right
+are_append (x ∷ xs) ys left right = (left.0, are_append xs ys left.1 right)
+
+are_front : (xs ys : List Page) → ArePages (xs ++ ys) → ArePages xs
+are_front [] ys are = tt
+are_front (x ∷ xs) ys are = (are.0, are_front xs ys are.1)
 
 -- ---- the pages of a block of which some were read
 
@@ -170,13 +172,20 @@ parted place page known (p ∷ ps) not =
 record Front (place from n known : ℕ) (made : Block) : Type 0 where
   sizes : AllByRecursion (λ c. length c ≡ 4072) made
   state : Made made known n
+  are : ArePages (pages_from place 0 n made)
   reads : (qs : List Page) → read_from place from [] 0 (pages_from place 0 n made ++ qs) ≡ read_from place from made
       known qs
-  torns : (qs : List Page) → could_be_torn place 0 0 (pages_from place 0 n made ++ qs) ≡ could_be_torn place
-      (length made) known qs
+  torns : (qs : List Page) → could_be_torn place 0 0 (told_bytes 0) (pages_from place 0 n made ++ qs) ≡
+      could_be_torn place (length made) known (told_bytes known) qs
 
 no_front : (place from : ℕ) → Front place from 0 0 []
-no_front place from = record { sizes = tt; state = None_yet refl refl; reads = λ qs. refl; torns = λ qs. refl }
+no_front place from = record {
+  sizes = tt;
+  state = None_yet refl refl;
+  are = tt;
+  reads = λ qs. refl;
+  torns = λ qs. refl;
+}
 
 next_front : (place from n known : ℕ) (made : Block) (p : Page) → Front place from n known made → length p ≡ 4096 →
     IsBytes p → (is_whole (kind_of p) && is_next place (length made) known p) ≡ true → length made + 1 ≢ pages_field p
@@ -195,14 +204,20 @@ next_front place from n known made p front long bytes here inner =
     qs =
     λ qs. ap (λ (l : List Page). l ++ (p ∷ qs)) (same_front place known n m made front.state fields.1)
     ∙ one_more place m made chunk p qs page in
+    let pages_are : ArePages (pages_from place 0 m (made ++ chunk ∷ [])) =
+    let P : List Page → Type 0 = λ l. ArePages l in
+    subst P (start [] ∙ append-nil (pages_from place 0 m (made ++ chunk ∷ [])))
+    (are_append (pages_from place 0 n made) (p ∷ []) front.are ((long, bytes), tt)) in
     record {
       sizes = sizes_push made chunk front.sizes size;
       state = Some_of (omega (arith, longer)) refl (omega (arith, longer, fields.0, inner)) (small p bytes);
+      are = pages_are;
       reads = λ qs. ap (read_from place from [] 0) (sym (start qs)) ∙ front.reads (p ∷ qs)
           ∙ next_page place from known made p qs here
           ∙ cond-false (length made + 1 == m) _ _ (ne_eqb (length made + 1) m inner);
-      torns = λ qs. ap (could_be_torn place 0 0) (sym (start qs)) ∙ front.torns (p ∷ qs)
-          ∙ torn_whole place (length made) known p qs whole parts.1 ∙ ap (λ k. could_be_torn place k m qs) (sym longer);
+      torns = λ qs. ap (could_be_torn place 0 0 (told_bytes 0)) (sym (start qs)) ∙ front.torns (p ∷ qs)
+          ∙ torn_whole place (length made) known p qs whole parts.1
+          ∙ ap (λ k. could_be_torn place k m (told_bytes m) qs) (sym longer);
     }
 
 -- the pages of a block are those that were read of it and its last one
@@ -257,10 +272,15 @@ none_stands place from pages none block more fits fills is =
     not_ok (is_sound block) block (read_from (place + batches_in block) (from + length block) [] 0 more) from
     (sym (block_read place from block more fits fills) ∙ ap (read_from place from [] 0) (sym is) ∙ none)
 
-abbrev nothing_read : (place from : ℕ) (pages : List Page) → could_be_torn place 0 0 pages ≡ true →
-    read_from place from [] 0 pages ≡ Ok [] → Reads place pages []
-nothing_read place from pages torn none =
-    record { rest = pages; whole = refl; each = tt; torn = torn; unfinished = none_stands place from pages none }
+abbrev nothing_read : (place from : ℕ) (pages : List Page) → ArePages pages →
+    could_be_torn place 0 0 (told_bytes 0) pages ≡ true → read_from place from [] 0 pages ≡ Ok [] → Reads place pages []
+nothing_read place from pages are torn none = record {
+  rest = pages;
+  whole = refl;
+  each = tt;
+  torn = torn_is_left place pages are torn;
+  unfinished = none_stands place from pages none;
+}
 
 -- with a block before them
 abbrev reads_more : (place : ℕ) (block : Block) (pages : List Page) (blocks : List Block) → IsBlock block →
@@ -322,29 +342,47 @@ says_more place from block pages (Err fault) is (inr (kind, bad)) =
 -- one
 bare_front : (place from known : ℕ) (made : Block) (p : Page) (ps t behind : List Page) (q : Page) →
     (is_whole (kind_of p) && is_next place (length made) known p) ≡ false → p ∷ ps ≡ t ++ q ∷ behind
-    → could_be_torn place (length made) known t ≡ true → read_from place from made known t ≡ Ok []
+    → could_be_torn place (length made) known (told_bytes known) t ≡ true → read_from place from made known t ≡ Ok []
 bare_front place from known made p ps [] behind q other is torn = none_read place from known made
 bare_front place from known made p ps (x ∷ t) behind q other is torn =
     let same : p ≡ x = cc in
     let other' : (is_whole (kind_of x) && is_next place (length made) known x) ≡ false =
     ap (λ (y : Page). is_whole (kind_of y) && is_next place (length made) known y) (sym same) ∙ other in
-    other_page place from known made x t other' ∙ cond-true (could_be_torn place (length made) known (x ∷ t)) _ _ torn
+    other_page place from known made x t other'
+    ∙ cond-true (could_be_torn place (length made) known (told_bytes known) (x ∷ t)) _ _ torn
 
 module _ (place from n known : ℕ) (made : Block) (front : Front place from n known made) where
-  said_none : (ps : List Page) → could_be_torn place (length made) known ps ≡ true →
+  said_none : (ps : List Page) → ArePages ps → could_be_torn place (length made) known (told_bytes known) ps ≡ true →
       read_from place from made known ps ≡ Ok [] → Says place from (pages_from place 0 n made ++ ps) (Ok [])
-  said_none ps torn none =
-      nothing_read place from (pages_from place 0 n made ++ ps) (front.torns ps ∙ torn) (front.reads ps ∙ none)
+  said_none ps are torn none =
+      nothing_read place from (pages_from place 0 n made ++ ps) (are_append (pages_from place 0 n made) ps front.are are)
+      (front.torns ps ∙ torn) (front.reads ps ∙ none)
 
-  said_damage : (p : Page) (ps : List Page) → (is_whole (kind_of p) && is_next place (length made) known p) ≡ false →
-      could_be_torn place (length made) known (p ∷ ps) ≡ false
+  -- what was refused page by page is nothing that an append may have left
+  refused_of : (t : List Page) (q : Page) →
+      could_be_torn place (length made) known (told_bytes known) (t ++ q ∷ []) ≡ false →
+      IsTorn place ((pages_from place 0 n made ++ t) ++ q ∷ []) → ⊥
+  refused_of t q refused torn =
+      let first = pages_from place 0 n made in
+      let passes : could_be_torn place 0 0 (told_bytes 0) ((first ++ t) ++ q ∷ []) ≡ true =
+      torn_passes place ((first ++ t) ++ q ∷ []) torn in
+      let falls : could_be_torn place 0 0 (told_bytes 0) ((first ++ t) ++ q ∷ []) ≡ false =
+      ap (could_be_torn place 0 0 (told_bytes 0)) (append_assoc first t (q ∷ [])) ∙ front.torns (t ++ q ∷ []) ∙ refused in
+      both_ways _ falls passes
+
+  said_damage : (p : Page) (ps : List Page) → ArePages (p ∷ ps) →
+      (is_whole (kind_of p) && is_next place (length made) known p) ≡ false →
+      could_be_torn place (length made) known (told_bytes known) (p ∷ ps) ≡ false
       → Says place from (pages_from place 0 n made ++ (p ∷ ps))
-      (Err (fault_at Damaged (from + damaged_at place (length made) known (p ∷ ps))))
-  said_damage p ps other not =
-      let cut = parted place (length made) known (p ∷ ps) not in
+      (Err (fault_at Damaged (from + damaged_at place (length made) known (told_bytes known) (p ∷ ps))))
+  said_damage p ps are other not =
+      let cut = parted place (length made) known (told_bytes known) (p ∷ ps) not in
       let first = pages_from place 0 n made in
       let count : length first ≡ length made = length-pages_from place 0 n made in
       let none = bare_front place from known made p ps cut.front cut.behind cut.bad other cut.whole cut.torn in
+      let P : List Page → Type 0 = λ l. ArePages l in
+      let front_are : ArePages (first ++ cut.front) =
+      are_append first cut.front front.are (are_front cut.front (cut.bad ∷ cut.behind) (subst P cut.whole are)) in
       inl (
         refl,
         record {
@@ -355,25 +393,25 @@ module _ (place from n known : ℕ) (made : Block) (front : Front place from n k
           whole = ap (λ (l : List Page). first ++ l) cut.whole
               ∙ sym (append_assoc first cut.front (cut.bad ∷ cut.behind));
           numbered = omega (arith, cut.numbered, length-append first cut.front);
-          read = nothing_read place from (first ++ cut.front) (front.torns cut.front ∙ cut.torn) (front.reads cut.front
-              ∙ none);
-          refused = ap (could_be_torn place 0 0) (append_assoc first cut.front (cut.bad ∷ []))
-              ∙ front.torns (cut.front ++ cut.bad ∷ []) ∙ cut.refused;
+          read = nothing_read place from (first ++ cut.front) front_are (front.torns cut.front ∙ cut.torn)
+              (front.reads cut.front ∙ none);
+          refused = refused_of cut.front cut.bad cut.refused;
         },
       )
 
-  said_ended : (p : Page) (ps : List Page) → (is_whole (kind_of p) && is_next place (length made) known p) ≡ false →
+  said_ended : (p : Page) (ps : List Page) → ArePages (p ∷ ps) →
+      (is_whole (kind_of p) && is_next place (length made) known p) ≡ false →
       Says place from (pages_from place 0 n made ++ (p ∷ ps)) (read_from place from made known (p ∷ ps))
-  said_ended p ps other =
+  said_ended p ps are other =
       let end = other_page place from known made p ps other in
       let P : Result (List Block) LogFault → Type 0 = λ r. Says place from (pages_from place 0 n made ++ (p ∷ ps)) r in
-      elim (cases_Bool (could_be_torn place (length made) known (p ∷ ps))) [
+      elim (cases_Bool (could_be_torn place (length made) known (told_bytes known) (p ∷ ps))) [
         | inl torn ↦
-            let is = end ∙ cond-true (could_be_torn place (length made) known (p ∷ ps)) _ _ torn in
-            subst P (sym is) (said_none (p ∷ ps) torn is)
+            let is = end ∙ cond-true (could_be_torn place (length made) known (told_bytes known) (p ∷ ps)) _ _ torn in
+            subst P (sym is) (said_none (p ∷ ps) are torn is)
         | inr not ↦
-            let is = end ∙ cond-false (could_be_torn place (length made) known (p ∷ ps)) _ _ not in
-            subst P (sym is) (said_damage p ps other not)
+            let is = end ∙ cond-false (could_be_torn place (length made) known (told_bytes known) (p ∷ ps)) _ _ not in
+            subst P (sym is) (said_damage p ps are other not)
       ]
 
 said_bad_block : (place from : ℕ) (block : Block) (ps : List Page) → FillsPages block → is_sound block ≡ false →
@@ -407,12 +445,13 @@ says : (place from n known : ℕ) (made : Block) (ps : List Page) → ArePages p
 says place from n known made [] are front =
     let P : Result (List Block) LogFault → Type 0 = λ r. Says place from (pages_from place 0 n made ++ []) r in
     let none = none_read place from known made in
-    subst P (sym none) (said_none place from n known made front [] (torn_none place (length made) known) none)
+    subst P (sym none) (said_none place from n known made front [] tt
+    (torn_none place (length made) known (told_bytes known)) none)
 says place from n known made (p ∷ ps) are front =
     let m = pages_field p in
     let block = made ++ chunk_field p ∷ [] in
     elim (cases_Bool (is_whole (kind_of p) && is_next place (length made) known p)) [
-      | inr other ↦ said_ended place from n known made front p ps other
+      | inr other ↦ said_ended place from n known made front p ps are other
       | inl here ↦
           let step = next_page place from known made p ps here in
           elim (cases_Bool (length made + 1 == m)) [
@@ -478,7 +517,7 @@ parted_pages [] ys are = are
 parted_pages (x ∷ xs) ys are = parted_pages xs ys are.1
 
 -- What could be torn and begins with no block is read as nothing.
-module _ (place from : ℕ) (rest : List Page) (fits : place < 2 ^ 64) (torn : could_be_torn place 0 0 rest ≡ true)
+module _ (place from : ℕ) (rest : List Page) (fits : place < 2 ^ 64) (torn : IsTorn place rest)
     (unfinished : (block : Block) (more : List Page) → place < 2 ^ 64 → FillsPages block →
     rest ≡ block_pages place block ++ more → ⊥) where
   begins_not : (b : Block) (blocks : List Block) (more : List Page) → FillsPages b →
@@ -489,13 +528,13 @@ module _ (place from : ℕ) (rest : List Page) (fits : place < 2 ^ 64) (torn : c
 
   not_damaged : (blocks : List Block) (front : List Page) (page : Page) (behind : List Page) →
       rest ≡ front ++ page ∷ behind → (read : Reads place front blocks) →
-      could_be_torn (place_behind place blocks) 0 0 (read.rest ++ page ∷ []) ≡ false → ⊥
+      (IsTorn (place_behind place blocks) (read.rest ++ page ∷ []) → ⊥) → ⊥
   not_damaged [] front page behind whole read refused =
       let same : front ≡ read.rest = read.whole in
       let split : rest ≡ (read.rest ++ page ∷ []) ++ behind = whole ∙ ap (λ (l : List Page). l ++ page ∷ behind) same
       ∙ sym (append_assoc read.rest (page ∷ []) behind) in
-      both_ways _ refused (torn_front place 0 0 (read.rest ++ page ∷ []) behind
-      (ap (could_be_torn place 0 0) (sym split) ∙ torn))
+      let P : List Page → Type 0 = λ l. IsTorn place l in
+      refused (torn_front place (read.rest ++ page ∷ []) behind (subst P split torn))
   not_damaged (b ∷ blocks) front page behind whole read refused =
       begins_not b blocks (read.rest ++ page ∷ behind) read.each.0.fills
       (whole ∙ ap (λ (l : List Page). l ++ page ∷ behind) read.whole

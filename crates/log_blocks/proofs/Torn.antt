@@ -1,18 +1,22 @@
 -- What is read of whole blocks, and of a last one that lost bytes.
-use Rattle.std.proofs.Common.{◌≡◌, ◌≢◌, ◌⊎◌, inl, inr, ⊎_elim, ℕ, zero, suc, ◌+◌, ◌^◌, ◌<◌, ◌≤◌, true, false, cond, nat_lt, List, [], ◌∷◌, ◌++◌, length, refl, sym, ◌∙◌, ap, subst, arith, append_assoc, length-append}
+use Rattle.std.proofs.Common.{◌≡◌, ◌≢◌, ◌⊎◌, inl, inr, ⊎_elim, ℕ, zero, suc, ◌+◌, ◌^◌, ◌<◌, ◌≤◌, true, false, cond, List, [], ◌∷◌, ◌++◌, length, refl, sym, ◌∙◌, ap, subst, arith, append_assoc, length-append}
 use Rattle.std.specs.Prelude.{◌==◌, ◌&&◌, replicate, Result, Ok, Err}
+use Rattle.std.specs.Int.{w32, to_be_bytes}
 use Rattle.std.specs.List.{AllByRecursion}
-use Rattle.std.proofs.lemmas.Bool.{and_from, and_left, eq-eqb, ne_eqb, lt-ltb, or_left, or_right, cond-true, cond-false}
+use Rattle.std.proofs.lemmas.Bool.{and_from, and_left, eq-eqb, ne_eqb, cond-true, cond-false}
 use Rattle.std.proofs.lemmas.List.{append-nil, length_push}
-use Rattle.log_page.specs.Pages.{kind_of, page_of, is_blank, pages_field, chunk_field, is_next, is_whole}
+use Rattle.log_page.specs.Pages.{kind_of, page_of, is_blank, pages_field, chunk_field, is_next, is_whole, Lost}
+use Rattle.log_page.specs.declared.page.PageKind.{PageKind}
 use Rattle.log_page.specs.declared.page.PageKind.TheVariants.{Empty, Whole, Short}
 use Rattle.log_page.proofs.Judging.{blank_kind}
+use Rattle.log_page.proofs.LeftFields.{page_left}
 use Rattle.log_page.proofs.Losses.{losses}
 use Rattle.log_page.proofs.PageFields.{PageFits, length-page_of, pages_field_is, chunk_field_is, is_whole_page, next_is}
 use Rattle.log_blocks.specs.Blocks.{Page, Block, batches_in, is_sound, pages_from, block_pages, log_pages, place_behind, FillsPages, IsBlock, blank_page, LostPages}
-use Rattle.log_blocks.specs.Reading.{is_allowed, known_pages, could_be_torn, damaged_at, with_block, with_whole, with_blocks, ended, read_from, read_pages, fault_at}
+use Rattle.log_blocks.specs.Reading.{is_allowed, known_pages, known_shown, could_be_torn, damaged_at, IsLeft, AreLeft, with_block, with_whole, with_blocks, ended, read_from, read_pages, fault_at}
 use Rattle.log_blocks.specs.declared.fault.LogFault.{LogFault}
 use Rattle.log_blocks.specs.declared.fault.LogKind.TheVariants.{Damaged}
+use Rattle.log_blocks.proofs.Counts.{agreed_start, left_is_torn}
 
 -- ---- blank pages
 
@@ -23,92 +27,91 @@ blank_list (suc n) = blank_list n
 pub blank_is_empty : kind_of blank_page ≡ Empty
 blank_is_empty = blank_kind blank_page (blank_list 4096)
 
--- a page that is not whole, where it is allowed, leaves what is known of the block
-allowed_step : (place page pages : ℕ) (p : Page) (ps : List Page) → is_allowed (kind_of p) place page pages p ≡ true →
-    could_be_torn place (page + 1) (known_pages (kind_of p) pages p) ps ≡ true →
-    could_be_torn place page pages (p ∷ ps) ≡ true
+pub blank_could_be_torn : (place page pages n : ℕ) (shown : List ℕ) →
+    could_be_torn place page pages shown (replicate n blank_page) ≡ true
 unfolding could_be_torn
-allowed_step place page pages p ps here later = and_from _ _ here later
-
-pub empty_step : (place page pages : ℕ) (p : Page) (ps : List Page) → kind_of p ≡ Empty →
-    could_be_torn place (page + 1) pages ps ≡ true → could_be_torn place page pages (p ∷ ps) ≡ true
-empty_step place page pages p ps is later =
-    allowed_step place page pages p ps (ap (λ k. is_allowed k place page pages p) is)
-    (ap (λ k. could_be_torn place (page + 1) (known_pages k pages p) ps) is ∙ later)
-
-short_step : (place page pages : ℕ) (p : Page) (ps : List Page) → kind_of p ≡ Short → (pages ≡ 0) ⊎ (page < pages) →
-    could_be_torn place (page + 1) pages ps ≡ true → could_be_torn place page pages (p ∷ ps) ≡ true
-short_step place page pages p ps is room later =
-    allowed_step place page pages p ps
-    (ap (λ k. is_allowed k place page pages p) is
-    ∙ ⊎_elim (λ none. or_left (pages == 0) (nat_lt page pages) (eq-eqb _ _ none))
-    (λ lt. or_right (pages == 0) (nat_lt page pages) (lt-ltb _ _ lt)) room)
-    (ap (λ k. could_be_torn place (page + 1) (known_pages k pages p) ps) is ∙ later)
-
-whole_step : (place page pages : ℕ) (p : Page) (ps : List Page) → kind_of p ≡ Whole →
-    is_next place page pages p ≡ true → could_be_torn place (page + 1) (pages_field p) ps ≡ true →
-    could_be_torn place page pages (p ∷ ps) ≡ true
-whole_step place page pages p ps is next later =
-    allowed_step place page pages p ps (ap (λ k. is_allowed k place page pages p) is ∙ next)
-    (ap (λ k. could_be_torn place (page + 1) (known_pages k pages p) ps) is ∙ later)
-
-pub whole_step_is : (place page pages : ℕ) (p : Page) (ps : List Page) → kind_of p ≡ Whole →
-    is_next place page pages p ≡ true → could_be_torn place (page + 1) (pages_field p) ps ≡ true →
-    could_be_torn place page pages (p ∷ ps) ≡ true
-whole_step_is = whole_step
-
-pub blank_could_be_torn : (place page pages n : ℕ) → could_be_torn place page pages (replicate n blank_page) ≡ true
-unfolding could_be_torn
-blank_could_be_torn place page pages zero = refl
-blank_could_be_torn place page pages (suc n) =
-    empty_step place page pages blank_page (replicate n blank_page) blank_is_empty
-    (blank_could_be_torn place (page + 1) pages n)
+blank_could_be_torn place page pages zero shown = refl
+blank_could_be_torn place page pages (suc n) shown =
+    let ps = replicate n blank_page in
+    and_from (is_allowed (kind_of blank_page) place page pages shown blank_page)
+    (could_be_torn place (page + 1) (known_pages (kind_of blank_page) pages blank_page)
+    (known_shown (kind_of blank_page) shown blank_page) ps)
+    (ap (λ k. is_allowed k place page pages shown blank_page) blank_is_empty)
+    (ap (λ k. could_be_torn place (page + 1) (known_pages k pages blank_page) (known_shown k shown blank_page) ps)
+    blank_is_empty ∙ blank_could_be_torn place (page + 1) pages n shown)
 
 -- ---- a block that lost bytes could be torn
+
+is_left_of_kind : (k : PageKind) (place page pages : ℕ) (p : Page) → kind_of p ≡ k → IsLeft k place page pages p →
+    IsLeft (kind_of p) place page pages p
+is_left_of_kind k place page pages p is left = subst (λ x. IsLeft x place page pages p) (sym is) left
+
+-- what a page of a block is once it lost bytes
+lost_is_left : (place page pages : ℕ) (chunk : List ℕ) (q : Page) → (fits : PageFits place page pages chunk) →
+    Lost (page_of place page pages chunk) q → IsLeft (kind_of q) place page pages q
+lost_is_left place page pages chunk q fits lost =
+    let p = page_of place page pages chunk in
+    let P : Page → Type 0 = λ r. IsLeft (kind_of r) place page pages r in
+    elim (losses p q (length-page_of place page pages chunk fits) lost (is_whole_page place page pages chunk fits)) [
+      | inl same ↦
+          let whole : IsLeft (kind_of p) place page pages p =
+          is_left_of_kind Whole place page pages p (is_whole_page place page pages chunk fits)
+          (fits.within, next_is place page pages chunk fits pages (inr refl)) in
+          subst P (sym same) whole
+      | inr (inl blank) ↦ is_left_of_kind Empty place page pages q blank tt
+      | inr (inr short) ↦ is_left_of_kind Short place page pages q short
+          (fits.within, page_left place page pages chunk fits q lost)
+    ]
+
+lost_are_left : (place page pages : ℕ) (chunks : Block) (left : List Page) → place < 2 ^ 64 → pages < 2 ^ 32 →
+    page + length chunks ≡ pages → AllByRecursion (λ chunk. length chunk ≡ 4072) chunks →
+    LostPages (pages_from place page pages chunks) left → AreLeft place page pages left
+lost_are_left place page pages [] [] place_fits pages_fits count sizes lost = tt
+lost_are_left place page pages [] (q ∷ left) place_fits pages_fits count sizes lost = absurd lost
+lost_are_left place page pages (chunk ∷ chunks) [] place_fits pages_fits count sizes lost = absurd lost
+lost_are_left place page pages (chunk ∷ chunks) (q ∷ left) place_fits pages_fits count sizes lost =
+    let fits : PageFits place page pages chunk =
+    record { place_fits = place_fits; within = omega arith; pages_fits = pages_fits; chunk_fits = sizes.0 } in (
+      lost_is_left place page pages chunk q fits lost.0,
+      lost_are_left place (page + 1) pages chunks left place_fits pages_fits (omega arith) sizes.1 lost.1,
+    )
+
+blanks_are_left : (place page pages n : ℕ) → AreLeft place page pages (replicate n blank_page)
+blanks_are_left place page pages zero = tt
+blanks_are_left place page pages (suc n) = (
+  is_left_of_kind Empty place page pages blank_page blank_is_empty tt,
+  blanks_are_left place (page + 1) pages n,
+)
+
+left_with_blanks : (place page pages n : ℕ) (left : List Page) → AreLeft place page pages left →
+    AreLeft place page pages (left ++ replicate n blank_page)
+left_with_blanks place page pages n [] are = blanks_are_left place page pages n
+left_with_blanks place page pages n (q ∷ left) are =
+    (are.0, left_with_blanks place (page + 1) pages n left are.1)
 
 pub lost_could_be_torn : (place page pages known n : ℕ) (chunks : Block) (left : List Page) → place < 2 ^ 64 →
     pages < 2 ^ 32 → page + length chunks ≡ pages → AllByRecursion (λ chunk. length chunk ≡ 4072) chunks →
     (known ≡ 0) ⊎ (known ≡ pages)
     → LostPages (pages_from place page pages chunks) left →
-    could_be_torn place page known (left ++ replicate n blank_page) ≡ true
-lost_could_be_torn place page pages known n [] [] place_fits pages_fits count sizes which lost =
-    blank_could_be_torn place page known n
-lost_could_be_torn place page pages known n [] (q ∷ left) place_fits pages_fits count sizes which lost = absurd lost
-lost_could_be_torn place page pages known n (chunk ∷ chunks) [] place_fits pages_fits count sizes which lost =
-    absurd lost
-lost_could_be_torn place page pages known n (chunk ∷ chunks) (q ∷ left) place_fits pages_fits count sizes which lost =
-    let within : page < pages = omega arith in
-    let fits : PageFits place page pages chunk =
-    record { place_fits = place_fits; within = within; pages_fits = pages_fits; chunk_fits = sizes.0 } in
-    let p = page_of place page pages chunk in
-    let more : page + 1 + length chunks ≡ pages = omega arith in
-    let later : (m : ℕ) → (m ≡ 0) ⊎ (m ≡ pages) →
-    could_be_torn place (page + 1) m (left ++ replicate n blank_page) ≡ true =
-    λ m which'. lost_could_be_torn place (page + 1) pages m n chunks left place_fits pages_fits more sizes.1 which'
-    lost.1 in
-    let room : (known ≡ 0) ⊎ (page < known) =
-    ⊎_elim (λ none. inl none) (λ is. inr (subst (λ m. page < m) (sym is) within)) which in
-    elim (losses p q (length-page_of place page pages chunk fits) lost.0 (is_whole_page place page pages chunk fits)) [
-      | inl same ↦
-          subst (λ (r : Page). could_be_torn place page known (r ∷ (left ++ replicate n blank_page)) ≡ true) (sym same)
-          (whole_step place page known p (left ++ replicate n blank_page) (is_whole_page place page pages chunk fits)
-          (next_is place page pages chunk fits known which)
-          (later (pages_field p) (inr (pages_field_is place page pages chunk fits))))
-      | inr (inl blank) ↦ empty_step place page known q (left ++ replicate n blank_page) blank (later known which)
-      | inr (inr short) ↦ short_step place page known q (left ++ replicate n blank_page) short room (later known which)
-    ]
+    could_be_torn place page known (to_be_bytes w32 known) (left ++ replicate n blank_page) ≡ true
+lost_could_be_torn place page pages known n chunks left place_fits pages_fits count sizes which lost =
+    left_is_torn place page known pages (to_be_bytes w32 known) (left ++ replicate n blank_page) pages_fits
+    (agreed_start pages known which)
+    (left_with_blanks place page pages n left
+    (lost_are_left place page pages chunks left place_fits pages_fits count sizes lost))
 
 -- ---- reading
 
 -- a page that is not whole ends what is read, where it and the pages behind it could be a block in the making
 pub torn_end : (place from known : ℕ) (made : Block) (p : Page) (ps : List Page) → is_whole (kind_of p) ≡ false →
-    could_be_torn place (length made) known (p ∷ ps) ≡ true → read_from place from made known (p ∷ ps) ≡ Ok []
+    could_be_torn place (length made) known (to_be_bytes w32 known) (p ∷ ps) ≡ true →
+    read_from place from made known (p ∷ ps) ≡ Ok []
 unfolding read_from
 torn_end place from known made p ps other torn =
     cond-false (is_whole (kind_of p) && is_next place (length made) known p) _ _
     (and_left (is_whole (kind_of p)) (is_next place (length made) known p) other)
-    ∙ cond-true (could_be_torn place (length made) known (p ∷ ps)) (Ok [])
-    (Err (fault_at Damaged (from + damaged_at place (length made) known (p ∷ ps)))) torn
+    ∙ cond-true (could_be_torn place (length made) known (to_be_bytes w32 known) (p ∷ ps)) (Ok [])
+    (Err (fault_at Damaged (from + damaged_at place (length made) known (to_be_bytes w32 known) (p ∷ ps)))) torn
 
 -- what is read of a block whose pages are whole, and of these pages behind it
 abbrev pub read_whole : ℕ → ℕ → Block → List Page → Result (List Block) LogFault
@@ -126,7 +129,8 @@ next_page place from known made p ps next =
 
 pub other_page : (place from known : ℕ) (made : Block) (p : Page) (ps : List Page) →
     (is_whole (kind_of p) && is_next place (length made) known p) ≡ false
-    → read_from place from made known (p ∷ ps) ≡ ended place from (length made) known (p ∷ ps)
+    → read_from place from made known (p ∷ ps) ≡
+    ended place from (length made) known (to_be_bytes w32 known) (p ∷ ps)
 unfolding read_from
 other_page place from known made p ps other =
     cond-false (is_whole (kind_of p) && is_next place (length made) known p) _ _ other
@@ -141,7 +145,7 @@ unfolding read_from
 blank_read place from known zero made = refl
 blank_read place from known (suc n) made =
     torn_end place from known made blank_page (replicate n blank_page) (ap is_whole blank_is_empty)
-    (blank_could_be_torn place (length made) known (suc n))
+    (blank_could_be_torn place (length made) known (suc n) (to_be_bytes w32 known))
 
 module _ (place from pages : ℕ) (place_fits : place < 2 ^ 64) (pages_fits : pages < 2 ^ 32) where
   whole_next : (known : ℕ) (made : Block) (chunk : List ℕ) → (fits : PageFits place (length made) pages chunk) →
@@ -213,7 +217,8 @@ module _ (place from pages : ℕ) (place_fits : place < 2 ^ 64) (pages_fits : pa
       let fits : PageFits place (length made) pages chunk =
       record { place_fits = place_fits; within = omega arith; pages_fits = pages_fits; chunk_fits = size } in
       let p = page_of place (length made) pages chunk in
-      let torn : could_be_torn place (length made) known (q ∷ replicate n blank_page) ≡ true =
+      let torn : could_be_torn place (length made) known (to_be_bytes w32 known) (q ∷ replicate n blank_page) ≡
+      true =
       lost_could_be_torn place (length made) pages known n (chunk ∷ []) (q ∷ []) place_fits pages_fits count (
         size,
         sizes,
@@ -229,7 +234,7 @@ module _ (place from pages : ℕ) (place_fits : place < 2 ^ 64) (pages_fits : pa
       record { place_fits = place_fits; within = omega arith; pages_fits = pages_fits; chunk_fits = size } in
       let p = page_of place (length made) pages chunk in
       let rest = left ++ replicate n blank_page in
-      let torn : could_be_torn place (length made) known (q ∷ rest) ≡ true =
+      let torn : could_be_torn place (length made) known (to_be_bytes w32 known) (q ∷ rest) ≡ true =
       lost_could_be_torn place (length made) pages known n (chunk ∷ c ∷ chunks) (q ∷ left) place_fits pages_fits count
       (size, sizes) which lost in
       let longer : length (made ++ chunk ∷ []) ≡ length made + 1 = length_push made chunk in

@@ -1,5 +1,6 @@
 -- How far the pages of a log were scanned.
 use Rattle.std.specs.Prelude.{◌≡◌, ℕ, ◌+◌, ◌*◌, ◌^◌, ◌<◌, ◌≤◌, Bool, false, not, ◌&&◌, List, [], ◌∷◌, ◌++◌, length, drop, sum_by, Result, Ok, if◌then◌else◌}
+use Rattle.std.specs.Int.{w32, to_be_bytes}
 use Rattle.log_page.specs.Pages.{kind_of, chunk_field, is_next, is_whole}
 use Rattle.log_page.specs.declared.page.PageKind.{PageKind}
 use Rattle.log_blocks.specs.Blocks.{Page, Block, batches_in, log_pages, place_behind}
@@ -22,7 +23,7 @@ used_pages pages = sum_by (λ p. used_by (kind_of p)) pages
 -- read, or those of a block in the making
 abbrev pub goes_on : BlockScan → Block → List Page → Result (List Block) LogFault
 goes_on s made rest =
-    if s.torn then ended s.place s.page s.made s.pages rest else read_from s.place s.page made s.pages rest
+    if s.torn then ended s.place s.page s.made s.pages s.shown rest else read_from s.place s.page made s.pages rest
 
 -- whether a page of this kind is the next whole one of the block that is read
 abbrev pub is_next_whole : BlockScan → PageKind → Page → Bool
@@ -37,6 +38,7 @@ pub record HasTaken (first : ℕ) (s : BlockScan) (blocks : List Block) (made : 
   pub begins : s.page ≡ 1 + length (log_pages first blocks)
   pub lasts : s.last ≡ last_begin 1 0 blocks
   pub made_long : s.torn ≡ false → length made ≡ s.made
+  pub shown : s.torn ≡ false → s.shown ≡ to_be_bytes w32 s.pages
   pub told : s.torn ≡ false → 0 < length made → batches_in made ≡ s.batches
   pub taken_long : s.page + s.made ≡ 1 + length taken
   pub used : s.used ≡ used_pages (drop (length (log_pages first blocks)) taken)

@@ -5,6 +5,7 @@
 //! isn't as it was written is a fault, with its number.
 #![tactic(auto)]
 
+mod count;
 mod fault;
 mod file;
 mod laws;

@@ -1,13 +1,14 @@
 //! Finds the blocks of a log, page by page.
 ghost use Rattle.std.specs.Prelude.{◌≡◌, ◌≢◌, ◌+◌, ◌*◌, ◌<◌, ◌≤◌, ◌^◌, ◌&&◌, ℕ, true, false, List, ◌∷◌, [], ◌++◌, Err, OnOk, IfOk, IfErr, take};
-ghost use Rattle.std.specs.Int.{w64, from_be_bytes};
-ghost use Rattle.log_page.specs.Pages.{chunk_field, kind_of, pages_field, is_whole};
+ghost use Rattle.std.specs.Int.{w32, w64, to_be_bytes, from_be_bytes};
+ghost use Rattle.log_page.specs.Pages.{chunk_field, kind_of, pages_field, is_lost_check, is_whole};
 ghost use Rattle.log_blocks.specs.Blocks.{Page, Block, can_have};
-ghost use Rattle.log_blocks.specs.Reading.{is_allowed, known_pages, read_pages, used_by};
+ghost use Rattle.log_blocks.specs.Reading.{is_allowed, known_pages, known_shown, read_pages, used_by};
 ghost use Rattle.log_blocks.specs.Scanning.{HasTaken, IsBounded, blocks_after, is_next_whole, made_after};
 
+use crate::count::{is_left_part, shown_with};
 use crate::fault::{LogFault, LogKind};
-use log_page::{PAGE, PageKind, batches_told, is_next_page, page_kind, pages_told};
+use log_page::{PAGE, PageKind, batches_told, is_next_page, page_kind, pages_bytes, pages_told};
 
 /// What a page is to the blocks of a log.
 #[derive(Clone, Copy, Debug, PartialEq, Eq)]
@@ -28,9 +29,11 @@ pub struct BlockScan {
     // The page where the next block begins, and the one where the block before it does, which is 0 where there is none.
     page: u64,
     last: u64,
-    // How many pages of the next block were taken, how many it has (0 where that isn't known), and how many batches.
+    // How many pages of the next block were taken, how many it has (0 where that isn't known), the bytes of that number
+    // that are known (00 where one isn't), and how many batches it has.
     made: u64,
-    pages: u64,
+    pages: u32,
+    shown: [u8; 4],
     batches: u64,
     // Whether the next block is in the making, and how many of its pages aren't empty.
     torn: bool,
@@ -47,14 +50,34 @@ fn is_whole_kind(kind: PageKind) -> bool
     }
 }
 
-/// Whether a page of this kind may stand in a block in the making.
-fn may_stand(kind: PageKind, place: u64, made: u64, pages: u64, page: &[u8; PAGE]) -> bool
-    ensures { result ≡ is_allowed kind place made pages page.now }
+/// Whether these are bytes of a number of pages, or 00.
+fn are_shown_of(shown: [u8; 4], pages: u32) -> bool
+    ensures { result ≡ is_lost_check shown (to_be_bytes w32 pages) }
+{
+    let right = pages.to_be_bytes();
+    (shown[0] == 0 || shown[0] == right[0])
+        && (shown[1] == 0 || shown[1] == right[1])
+        && (shown[2] == 0 || shown[2] == right[2])
+        && (shown[3] == 0 || shown[3] == right[3])
+}
+
+/// Whether a page of this kind may stand in a block in the making, as page `made` of the block at this place.
+fn may_stand(
+    kind: PageKind,
+    place: u64,
+    made: u64,
+    pages: u32,
+    shown: [u8; 4],
+    page: &[u8; PAGE],
+) -> bool
+    ensures { result ≡ is_allowed kind place made pages shown page.now }
 {
     match kind {
         PageKind::Empty => true,
-        PageKind::Short => pages == 0 || made < pages,
-        PageKind::Whole => is_next_page(page, place, made, pages),
+        PageKind::Short => is_left_part(page, place, made, pages, shown),
+        PageKind::Whole => {
+            is_next_page(page, place, made, pages as u64) && are_shown_of(shown, pages_told(page))
+        }
         PageKind::Spoilt => false,
     }
 }
@@ -71,12 +94,23 @@ fn uses(kind: PageKind) -> u64
 }
 
 /// How many pages a block in the making has, where that is known, after a page.
-fn pages_after(kind: PageKind, pages: u64, page: &[u8; PAGE]) -> u64
+fn pages_after(kind: PageKind, pages: u32, page: &[u8; PAGE]) -> u32
     ensures { result ≡ known_pages kind pages page.now }
 {
     match kind {
-        PageKind::Whole => pages_told(page) as u64,
+        PageKind::Whole => pages_told(page),
         PageKind::Empty | PageKind::Short | PageKind::Spoilt => pages,
+    }
+}
+
+/// The bytes of that number that are known, after a page.
+fn shown_after(kind: PageKind, shown: [u8; 4], page: &[u8; PAGE]) -> [u8; 4]
+    ensures { result ≡ known_shown kind shown page.now }
+{
+    match kind {
+        PageKind::Whole => pages_told(page).to_be_bytes(),
+        PageKind::Short => shown_with(shown, pages_bytes(page)),
+        PageKind::Empty | PageKind::Spoilt => shown,
     }
 }
 
@@ -102,6 +136,7 @@ impl BlockScan {
             last: 0,
             made: 0,
             pages: 0,
+            shown: [0; 4],
             batches: 0,
             torn: false,
             used: 0,
@@ -140,7 +175,9 @@ impl BlockScan {
     fn is_next_whole(&self, kind: PageKind, page: &[u8; PAGE]) -> bool
         ensures { result ≡ is_next_whole self.now kind page.now }
     {
-        !self.torn && is_whole_kind(kind) && is_next_page(page, self.place, self.made, self.pages)
+        !self.torn
+            && is_whole_kind(kind)
+            && is_next_page(page, self.place, self.made, self.pages as u64)
     }
 
     // Takes a page that isn't the next whole one.
@@ -158,13 +195,14 @@ impl BlockScan {
         ensures err { IfErr result (λ fault. (first : ℕ) (blocks : List Block) (made : Block) (taken rest : List Page) →
             HasTaken first self.old blocks made taken → read_pages first (taken ++ page.now ∷ rest) ≡ Err fault) }
     {
-        if !may_stand(kind, self.place, self.made, self.pages, page) {
+        if !may_stand(kind, self.place, self.made, self.pages, self.shown, page) {
             return Err(LogFault {
                 kind: LogKind::Damaged,
                 page: self.page + self.made,
             });
         }
         self.pages = pages_after(kind, self.pages, page);
+        self.shown = shown_after(kind, self.shown, page);
         self.used += uses(kind);
         self.made += 1;
         self.torn = true;
@@ -202,7 +240,8 @@ impl BlockScan {
         let made = self.made + 1;
         if made < pages as u64 {
             self.batches = batches;
-            self.pages = pages as u64;
+            self.pages = pages;
+            self.shown = pages.to_be_bytes();
             self.made = made;
             self.used += 1;
             return Ok(Step::Part);
@@ -219,6 +258,7 @@ impl BlockScan {
             last: self.page,
             made: 0,
             pages: 0,
+            shown: [0; 4],
             batches: 0,
             torn: false,
             used: 0,

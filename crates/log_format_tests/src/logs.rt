@@ -69,7 +69,8 @@ fn no_batches() -> [u8; PAGE] {
     page
 }
 
-// A byte that became 00 looks like a block in the making, which isn't read; one that became another is damage.
+// A byte that became 00 looks like a block in the making, which isn't read. One that became another is damage, and so is
+// one of each of two blocks.
 #[test]
 fn blocks_are_found_and_read(rt: HostRuntime) {
     for (first, second, found, read) in [
@@ -79,6 +80,12 @@ fn blocks_are_found_and_read(rt: HostRuntime) {
         (
             b1(),
             with_count(b2(), 2),
+            Err((LogKind::Damaged, 2)),
+            Err((LogKind::Damaged, 2)),
+        ),
+        (
+            with_count(b1(), 0),
+            with_count(b2(), 0),
             Err((LogKind::Damaged, 2)),
             Err((LogKind::Damaged, 2)),
         ),

@@ -1,4 +1,5 @@
 pub mod Judging
+pub mod LeftFields
 pub mod Losses
 pub mod PageFields
 mod SealedLemmas

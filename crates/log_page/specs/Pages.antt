@@ -1,7 +1,7 @@
 -- Pages of 4,096 bytes: 4 of the checksum of all behind them, 2 of the number of zero bytes behind them, 2 of the kind,
 -- 8 of the place of the block, 4 of the page's number in its block, 4 of how many pages that has, 4,072 of the block's
 -- own bytes, its chunk.
-use Rattle.std.specs.Prelude.{◌≡◌, ◌⊎◌, ℕ, ◌+◌, ◌*◌, ◌<◌, ◌==◌, nat_lt, Bool, true, false, ◌&&◌, ◌||◌, if◌then◌else◌, List, ◌++◌, take, drop, slice_index, count_by}
+use Rattle.std.specs.Prelude.{◌≡◌, ◌⊎◌, ℕ, zero, suc, ◌+◌, ◌*◌, ◌<◌, ◌==◌, nat_lt, Bool, true, false, ◌&&◌, ◌||◌, if◌then◌else◌, List, [], ◌∷◌, ◌++◌, take, drop, slice_index, count_by}
 use Rattle.std.specs.List.{AllZip, list_all}
 use Rattle.std.specs.Int.{w16, w32, w64, to_be_bytes, from_be_bytes}
 use Rattle.crc32c.specs.Remainders.{checksum_of}
@@ -81,6 +81,56 @@ pages_field page = from_be_bytes w32 (take 4 (drop 20 page))
 
 abbrev pub chunk_field : List ℕ → List ℕ
 chunk_field page = drop 24 page
+
+-- What page number `page` of the `pages` of the block at this place says of itself, which are its bytes 6 to 23: its
+-- kind, the place, its number, and how many pages the block has.
+abbrev pub fields_of : ℕ → ℕ → ℕ → List ℕ
+fields_of place page pages =
+    to_be_bytes w16 1 ++ (to_be_bytes w64 place ++ (to_be_bytes w32 page ++ to_be_bytes w32 pages))
+
+-- n bytes of a page, from this one on
+abbrev pub bytes_at : ℕ → ℕ → List ℕ → List ℕ
+bytes_at at zero p = []
+bytes_at at (suc n) p = slice_index p at ∷ bytes_at (at + 1) n p
+
+abbrev pub fields_in : List ℕ → List ℕ
+fields_in p = bytes_at 6 18 p
+
+abbrev pub pages_bytes : List ℕ → List ℕ
+pages_bytes p = bytes_at 20 4 p
+
+-- whether a byte is the right one, or was lost
+abbrev pub is_left : ℕ → ℕ → Bool
+is_left byte right = (byte == 0) || (byte == right)
+
+-- byte i of those from this one on, by that of the right ones
+abbrev pub left_at : List ℕ → ℕ → List ℕ → ℕ → Bool
+left_at p at right i = is_left (slice_index p (at + i)) (slice_index right i)
+
+-- whether each byte of what a page says of its kind, its place and its number is the right one or 00
+abbrev pub is_left_kind : List ℕ → Bool
+is_left_kind p = left_at p 6 (to_be_bytes w16 1) 0 && left_at p 6 (to_be_bytes w16 1) 1
+
+abbrev pub is_left_front : ℕ → List ℕ → Bool
+is_left_front place p =
+    left_at p 8 (to_be_bytes w64 place) 0 && left_at p 8 (to_be_bytes w64 place) 1 &&
+    left_at p 8 (to_be_bytes w64 place) 2 && left_at p 8 (to_be_bytes w64 place) 3
+
+abbrev pub is_left_back : ℕ → List ℕ → Bool
+is_left_back place p =
+    left_at p 8 (to_be_bytes w64 place) 4 && left_at p 8 (to_be_bytes w64 place) 5 &&
+    left_at p 8 (to_be_bytes w64 place) 6 && left_at p 8 (to_be_bytes w64 place) 7
+
+abbrev pub is_left_place : ℕ → List ℕ → Bool
+is_left_place place p = is_left_front place p && is_left_back place p
+
+abbrev pub is_left_number : ℕ → List ℕ → Bool
+is_left_number page p =
+    left_at p 16 (to_be_bytes w32 page) 0 && left_at p 16 (to_be_bytes w32 page) 1 &&
+    left_at p 16 (to_be_bytes w32 page) 2 && left_at p 16 (to_be_bytes w32 page) 3
+
+abbrev pub is_left_page : ℕ → ℕ → List ℕ → Bool
+is_left_page place page p = is_left_kind p && is_left_place place p && is_left_number page p
 
 -- Whether a page says that it is page number `page` of the block at this place, which has `pages` pages, or any number
 -- above this one where `pages` is 0, as it is while no page of the block has told how many there are.

@@ -11,7 +11,7 @@ mod laws;
 mod page;
 mod seal;
 
-pub use fields::{batches_told, is_next_page, pages_told};
+pub use fields::{batches_told, is_left_page, is_next_page, pages_bytes, pages_told};
 pub use laws::losses_are_seen;
 pub use page::{CHUNK, PAGE, PageKind, page_kind};
 pub use seal::seal_page;

@@ -1,8 +1,9 @@
 use Rattle.std.proofs.Common.{◌≡◌, ◌≢◌, ◌+◌, ◌∙◌, ap, sym, refl, true, false, arith, rules}
+use Rattle.std.specs.Int.{w32, to_be_bytes}
 use Rattle.std.proofs.lemmas.Bool.{and_parts}
 use Rattle.log_page.specs.Pages.{kind_of, pages_field, is_next, is_whole}
 use Rattle.log_blocks.specs.Blocks.{can_have}
-use Rattle.log_blocks.proofs.Sound.{next_pages}
+use Rattle.log_blocks.proofs.Counts.{next_pages}
 use Rattle.log_blocks.proofs.ScanLemmas.{part_taken, last_taken, bad_refused, sound_is, untorn_of, whole_of}
 use Rattle.log_blocks.proofs.scan.BlockScan.take_whole.Goals as goal
 
@@ -15,7 +16,8 @@ returns-then-made-pages-clause-ok c first blocks made taken has =
     part_taken first s blocks made taken has p (untorn_of s (kind_of p) p c.requires.next)
     (whole_of s (kind_of p) p c.requires.next) c.batches_of-batches.result c.batches_of-batches.ensures.first
     c.batches_of-batches.ensures.later inner
-    _ refl refl refl refl told refl (untorn_of s (kind_of p) p c.requires.next) refl
+    _ refl refl refl refl told (c.to_be_bytes-self.ensures ∙ ap (to_be_bytes w32) told) refl
+    (untorn_of s (kind_of p) p c.requires.next) refl
 
 pub can_hold-requires : goal.can_hold-requires
 can_hold-requires c =
@@ -74,4 +76,4 @@ returns-clause-ok c first blocks made taken has =
     last_taken first s blocks made taken has p (untorn_of s (kind_of p) p c.requires.next)
     (whole_of s (kind_of p) p c.requires.next) c.batches_of-batches.result c.batches_of-batches.ensures.first
     c.batches_of-batches.ensures.later all sound
-    _ refl (ap (λ n. s.page + n) told) refl refl refl refl refl
+    _ refl (ap (λ n. s.page + n) told) refl refl refl refl refl refl
