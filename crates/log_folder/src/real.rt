@@ -7,6 +7,7 @@ use crate::file_disk::FileDisk;
 use crate::news::{FileCall, LogNews};
 use byte_io::DeviceFault;
 use snap_file::{UNFINISHED, access_under, clear, folder_of, make_file};
+use sparse_log::bytes_to_read;
 use std::alloc::Global;
 use std::fs::{self, File, OpenFile, OpenOptions};
 use std::io::{self, ErrorKind};
@@ -43,8 +44,8 @@ fn open_folder<R: Files<File = File>>(rt: &R, path: &str) -> Result<File, Folder
     }
 }
 
-/// Opens the file under a path, None where nothing stands there. Nothing but a file is opened: the opening of a FIFO
-/// would wait for a writer.
+/// Opens the file under a path, and tells how many of its bytes are to be read; None where nothing stands there. Nothing
+/// but a file is opened: the opening of a FIFO would wait for a writer.
 fn open_log<R: Files<File = File>>(rt: &R, path: &str) -> io::Result<Option<(FileDisk, u64)>>
     ensures { IfOk result (λ found. IfSome found (λ f. (f.0.in_doubt ≡ false) × (f.0.failures ≡ 0))) }
 {
@@ -56,7 +57,8 @@ fn open_log<R: Files<File = File>>(rt: &R, path: &str) -> io::Result<Option<(Fil
     }
     let file = OpenOptions::new().read(true).write(true).open(rt, path)?;
     let length = file.metadata()?.len();
-    Ok(Some((FileDisk::new(file, length), length)))
+    let to_read = bytes_to_read(&file, length);
+    Ok(Some((FileDisk::new(file, length), to_read)))
 }
 
 /// Makes the new file of the log under a path.

@@ -8,9 +8,11 @@ use byte_io::{Counted, Source};
 use log_blocks::{LogFault, LogKind};
 use log_read::{LogFile, read_log};
 use progress::{Watch, Watched};
+use sparse_log::bytes_to_read;
 use std::alloc::Global;
+use std::fs::{self, File, OpenFile};
+use std::io::{self, Read, Seek, SeekFrom};
 use std::rt::Files;
-use std::{fs, io};
 use thiserror::Error;
 
 /// Why the file of a log was not read.
@@ -72,7 +74,7 @@ fn opening_fault(kind: io::ErrorKind) -> LogFileFault {
 }
 
 // Opens a file to read it. Nothing but a file is opened: the opening of a FIFO would wait for a writer.
-fn open_file<R: Files>(rt: &R, path: &str) -> Result<R::File, LogFileFault> {
+fn open_file<R: Files<File = File>>(rt: &R, path: &str) -> Result<File, LogFileFault> {
     match fs::metadata(rt, path) {
         Ok(found) if found.is_file() => {}
         Ok(_) => return Err(LogFileFault::OpenFailed),
@@ -82,6 +84,15 @@ fn open_file<R: Files>(rt: &R, path: &str) -> Result<R::File, LogFileFault> {
         Ok(file) => Ok(file),
         Err(error) => Err(opening_fault(error.kind())),
     }
+}
+
+// How many bytes of a file are to be read: all up to a hole at its end, and where it has none without a limit. The file is
+// read from its first byte on then.
+fn limit_of(file: &mut File) -> io::Result<u64> {
+    let length = file.metadata()?.len();
+    let to_read = bytes_to_read(file, length);
+    file.seek(SeekFrom::Start(0))?;
+    Ok(if to_read < length { to_read } else { u64::MAX })
 }
 
 // Reads a log from a source.
@@ -100,12 +111,16 @@ fn read_source<S: Source>(
     }
 }
 
-impl<'a, R: Files, W: Watch> KeptLog for NamedLog<'a, R, W> {
+impl<'a, R: Files<File = File>, W: Watch> KeptLog for NamedLog<'a, R, W> {
     ghost read_gives = { λ s max_bytes answer t. ⊤ };
 
     fn read(&mut self, alloc: Global, max_bytes: u64) -> Result<LogFile, LogFileFault> {
-        let file = open_file(self.rt, self.path)?;
-        let mut source = Watched::new(Counted::new(file), self.watch);
+        let mut file = open_file(self.rt, self.path)?;
+        let limit = match limit_of(&mut file) {
+            Ok(limit) => limit,
+            Err(error) => return Err(opening_fault(error.kind())),
+        };
+        let mut source = Watched::new(Counted::new(file.take(limit)), self.watch);
         read_source(alloc, &mut source, max_bytes)
     }
 }
