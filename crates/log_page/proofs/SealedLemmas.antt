@@ -1,8 +1,8 @@
 -- A page that is written from its end to its head: each part stands before what was written so far.
-use Rattle.std.proofs.Common.{◌≡◌, ℕ, List, ◌++◌, drop, sym, ◌∙◌, ap}
+use Rattle.std.proofs.Common.{◌≡◌, ℕ, List, ◌++◌, drop, ◌∙◌, ap}
 use Rattle.std.specs.Int.{w16, w32, w64, to_be_bytes}
 use Rattle.crc32c.specs.Remainders.{checksum_of}
-use Rattle.log_page.specs.Pages.{zeros_in, page_of, body_of, counted, sealed}
+use Rattle.log_page.specs.Pages.{zeros_in, page_of, body_of, counted}
 
 module _ (place number pages : ℕ) (chunk : List ℕ) (page1 page2 page3 page4 page5 page6 : List ℕ) where
   pub body_by_parts : drop 20 page1 ≡ to_be_bytes w32 pages ++ chunk

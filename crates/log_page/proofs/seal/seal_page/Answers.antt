@@ -1,6 +1,5 @@
-use Rattle.std.proofs.Common.{◌≡◌, ◌++◌, ◌∙◌, List, ℕ, ap, drop, rules}
-use Rattle.std.specs.Int.{w16, w32, w64, to_be_bytes}
-use Rattle.log_page.specs.Pages.{zeros_in, chunk_field}
+use Rattle.std.proofs.Common.{rules}
+use Rattle.log_page.specs.Pages.{chunk_field}
 use Rattle.log_page.proofs.SealedLemmas.{body_by_parts, page_by_parts}
 use Rattle.log_page.proofs.seal.seal_page.Goals as goal
 
