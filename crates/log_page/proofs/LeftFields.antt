@@ -99,11 +99,43 @@ module _ (place page pages : ℕ) (p : List ℕ) where
       let last = four_parts (left_at p 8 (to_be_bytes w64 place) 4) (left_at p 8 (to_be_bytes w64 place) 5)
       (left_at p 8 (to_be_bytes w64 place) 6) (left_at p 8 (to_be_bytes w64 place) 7) halves.1 in
       let number = four_parts (left_at p 16 (to_be_bytes w32 page) 0) (left_at p 16 (to_be_bytes w32 page) 1)
-      (left_at p 16 (to_be_bytes w32 page) 2) (left_at p 16 (to_be_bytes w32 page) 3) outer.1 in
-      (true_left _ _ kind.0, (true_left _ _ kind.1, (true_left _ _ four.0, (true_left _ _ four.1,
-      (true_left _ _ four.2, (true_left _ _ four.3, (true_left _ _ last.0, (true_left _ _ last.1,
-      (true_left _ _ last.2, (true_left _ _ last.3, (true_left _ _ number.0, (true_left _ _ number.1,
-      (true_left _ _ number.2, (true_left _ _ number.3, (bytes.0, (bytes.1, (bytes.2, (bytes.3, tt))))))))))))))))))
+      (left_at p 16 (to_be_bytes w32 page) 2) (left_at p 16 (to_be_bytes w32 page) 3) outer.1 in (
+        true_left _ _ kind.0,
+        (
+          true_left _ _ kind.1,
+          (
+            true_left _ _ four.0,
+            (
+              true_left _ _ four.1,
+              (
+                true_left _ _ four.2,
+                (
+                  true_left _ _ four.3,
+                  (
+                    true_left _ _ last.0,
+                    (
+                      true_left _ _ last.1,
+                      (
+                        true_left _ _ last.2,
+                        (
+                          true_left _ _ last.3,
+                          (
+                            true_left _ _ number.0,
+                            (
+                              true_left _ _ number.1,
+                              (true_left _ _ number.2, (true_left _ _ number.3, (bytes.0, (bytes.1, (bytes.2, (bytes.3, tt)))))),
+                            ),
+                          ),
+                        ),
+                      ),
+                    ),
+                  ),
+                ),
+              ),
+            ),
+          ),
+        ),
+      )
 
 -- ---- a page that lost bytes
 
@@ -119,8 +151,49 @@ pub page_left : (place page pages : ℕ) (chunk : List ℕ) (fits : PageFits pla
     Lost (page_of place page pages chunk) left → Lost (fields_of place page pages) (fields_in left)
 unfolding page_of
 page_left place page pages chunk fits left lost =
-    let at = left_byte place page pages chunk fits left lost in
-    (at 6 (omega arith), (at 7 (omega arith), (at 8 (omega arith), (at 9 (omega arith), (at 10 (omega arith),
-    (at 11 (omega arith), (at 12 (omega arith), (at 13 (omega arith), (at 14 (omega arith), (at 15 (omega arith),
-    (at 16 (omega arith), (at 17 (omega arith), (at 18 (omega arith), (at 19 (omega arith), (at 20 (omega arith),
-    (at 21 (omega arith), (at 22 (omega arith), (at 23 (omega arith), tt))))))))))))))))))
+    let at = left_byte place page pages chunk fits left lost in (
+      at 6 (omega arith),
+      (
+        at 7 (omega arith),
+        (
+          at 8 (omega arith),
+          (
+            at 9 (omega arith),
+            (
+              at 10 (omega arith),
+              (
+                at 11 (omega arith),
+                (
+                  at 12 (omega arith),
+                  (
+                    at 13 (omega arith),
+                    (
+                      at 14 (omega arith),
+                      (
+                        at 15 (omega arith),
+                        (
+                          at 16 (omega arith),
+                          (
+                            at 17 (omega arith),
+                            (
+                              at 18 (omega arith),
+                              (
+                                at 19 (omega arith),
+                                (
+                                  at 20 (omega arith),
+                                  (at 21 (omega arith), (at 22 (omega arith), (at 23 (omega arith), tt))),
+                                ),
+                              ),
+                            ),
+                          ),
+                        ),
+                      ),
+                    ),
+                  ),
+                ),
+              ),
+            ),
+          ),
+        ),
+      ),
+    )

@@ -11,7 +11,7 @@ use progress::{Watch, Watched};
 use sparse_log::bytes_to_read;
 use std::alloc::Global;
 use std::fs::{self, File, OpenFile};
-use std::io::{self, Read, Seek, SeekFrom};
+use std::io::{self, Read, Seek, SeekFrom, Take};
 use std::rt::Files;
 use thiserror::Error;
 
@@ -74,7 +74,7 @@ fn opening_fault(kind: io::ErrorKind) -> LogFileFault {
 }
 
 // Opens a file to read it. Nothing but a file is opened: the opening of a FIFO would wait for a writer.
-fn open_file<R: Files<File = File>>(rt: &R, path: &str) -> Result<File, LogFileFault> {
+fn open_whole<R: Files<File = File>>(rt: &R, path: &str) -> Result<File, LogFileFault> {
     match fs::metadata(rt, path) {
         Ok(found) if found.is_file() => {}
         Ok(_) => return Err(LogFileFault::OpenFailed),
@@ -95,6 +95,15 @@ fn limit_of(file: &mut File) -> io::Result<u64> {
     Ok(if to_read < length { to_read } else { u64::MAX })
 }
 
+// Opens a file to read it up to a hole at its end.
+fn open_file<R: Files<File = File>>(rt: &R, path: &str) -> Result<Take<File>, LogFileFault> {
+    let mut file = open_whole(rt, path)?;
+    match limit_of(&mut file) {
+        Ok(limit) => Ok(file.take(limit)),
+        Err(error) => Err(opening_fault(error.kind())),
+    }
+}
+
 // Reads a log from a source.
 fn read_source<S: Source>(
     alloc: Global,
@@ -111,16 +120,26 @@ fn read_source<S: Source>(
     }
 }
 
+// Reads a log from a file, of which each read is watched.
+fn read_watched<S: Source + Drop, W: Watch>(
+    alloc: Global,
+    file: S,
+    watch: &mut W,
+    max_bytes: u64,
+) -> Result<LogFile, LogFileFault>
+    requires failures { S.failure_count file + 1 < 2 ^ 64 }
+    requires limit { max_bytes < 2 ^ 50 }
+    ensures { IfOk result (IsRead max_bytes) }
+{
+    let mut source = Watched::new(file, watch);
+    read_source(alloc, &mut source, max_bytes)
+}
+
 impl<'a, R: Files<File = File>, W: Watch> KeptLog for NamedLog<'a, R, W> {
     ghost read_gives = { λ s max_bytes answer t. ⊤ };
 
     fn read(&mut self, alloc: Global, max_bytes: u64) -> Result<LogFile, LogFileFault> {
-        let mut file = open_file(self.rt, self.path)?;
-        let limit = match limit_of(&mut file) {
-            Ok(limit) => limit,
-            Err(error) => return Err(opening_fault(error.kind())),
-        };
-        let mut source = Watched::new(Counted::new(file.take(limit)), self.watch);
-        read_source(alloc, &mut source, max_bytes)
+        let file = open_file(self.rt, self.path)?;
+        read_watched(alloc, Counted::new(file), self.watch, max_bytes)
     }
 }

@@ -3,6 +3,7 @@
 //! A file may have holes: stretches that were never written, for which the system keeps no blocks. They read as 00. A log
 //! reads the same with fewer pages of 00 behind it, so a hole at its end needn't be read.
 #![tactic(auto)]
+
 ghost use Rattle.std.specs.Prelude.{◌≤◌};
 
 use std::fs::File;
@@ -17,6 +18,7 @@ const MOST_BYTES: u64 = 1 << 40;
 /// What Linux's lseek looks for from an offset on: the next byte that isn't in a hole, or the next hole, which the end of
 /// the file is too.
 const SEEK_DATA: i32 = 3;
+
 const SEEK_HOLE: i32 = 4;
 
 /// The number of the error where only a hole follows.
