@@ -47,7 +47,7 @@ class Files:
     def __init__(self, name):
         self.folder = os.path.join(server.FOLDER, name)
         os.mkdir(self.folder)
-        self.snap, self.log, self.backups = (os.path.join(self.folder, it) for it in ("sum.snap", "sum.log", "backups"))
+        self.snap, self.log, self.backups = (os.path.join(self.folder, it) for it in ("sum.snap", "sum.hhmlog", "backups"))
         os.mkdir(self.backups)
         self.words = [*LARGE, "--snapshot", self.snap, "--log", self.log]
 
@@ -105,7 +105,7 @@ def backups_beside_puts_have_all():
     check("beside puts: three are kept", [len(files.kept()), f"{files.backups}/{files.kept()[-1]}"], [3, folder])
     check("beside puts: their names", [it for it in files.kept() if not NAME.fullmatch(it)], [])
     again = Files("again")
-    again.words = [*LARGE, "--snapshot", f"{folder}/sum.snap", "--log", f"{folder}/sum.log"]
+    again.words = [*LARGE, "--snapshot", f"{folder}/sum.snap", "--log", f"{folder}/sum.hhmlog"]
     with again.serve() as at, at.client(1) as hhm:
         check("beside puts: a server from the last", hhm.status(), (batches, total))
 
@@ -176,7 +176,7 @@ def backups_of_few_batches():
         with at.client(1) as hhm:
             hhm.put(1, [(0, 0, 5)])
             check("no snapshot", counted(files.backup()[0])[1:], (1, 5))
-            check("no snapshot: what is copied", os.listdir(os.path.join(files.backups, files.kept()[0])), ["sum.log"])
+            check("no snapshot: what is copied", os.listdir(os.path.join(files.backups, files.kept()[0])), ["sum.hhmlog"])
             hhm.save()
             hhm.put(2, [(1, 0, 7)])
         os.chmod(files.snap, 0o640)

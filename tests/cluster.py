@@ -320,10 +320,10 @@ for name; do
     folder=$STATE/${name#hhm@} socket=$RUN/hhm-${name#hhm@}/hhm.sock
     case $what in
     start)
-        [ ! -S "$socket" ] && [ -e "$folder/sum.log" ] || continue
+        [ ! -S "$socket" ] && [ -e "$folder/sum.hhmlog" ] || continue
         mkdir -p "${socket%/*}"
         "$HHM" serve --unix "$socket" --rows 4294967296 --cols 4294967296 --snapshot "$folder/sum.snap" \\
-            --log "$folder/sum.log" >>"$STATE/said" 2>&1 &
+            --log "$folder/sum.hhmlog" >>"$STATE/said" 2>&1 &
         ;;
     stop)
         [ ! -S "$socket" ] || "$HHMC" --unix "$socket" stop --discard >>"$STATE/said"
@@ -398,7 +398,7 @@ def an_hour_that_cant_be_read_is_named():
     hours, cells = Hours("bad hours"), batch(1, 1)
     for place in range(2):
         hours.fill(f"202611270{place}", cells, saves=False, logged=True)
-    log = hours.path("2026112701", "sum.log")
+    log = hours.path("2026112701", "sum.hhmlog")
     with open(log, "rb") as file:
         text = file.read()
     with open(log, "wb") as file:

@@ -413,6 +413,35 @@ def a_server_that_loads_is_ended_too(prefix):
     os.remove(path)
 
 
+def a_log_of_an_earlier_installation_goes_on(prefix):
+    """A unit that named sum.log is installed anew and names sum.hhmlog: what was accepted after the last save is there."""
+    snap, earlier, log = (os.path.join(server.FOLDER, f"before.{it}") for it in ("snap", "log", "hhmlog"))
+    with Served(prefix, ["--snapshot", snap, f"--log={earlier}"]).listens() as at, at.link() as link:
+        at.puts(link, 7, 5, 0, 5)
+        link.sendall(b"\0\0\0\0\6")
+        check("before: a save", link.recv(64)[4], 0x86)
+        for client in (1, 2, 3):
+            at.puts(link, client, 1, client, 5 + client)
+        os.killpg(at.process.pid, signal.SIGKILL)
+    said = f"hhm-run: no {log} is there; the server goes on with {earlier}\n"
+    for words in [["--log", log], [f"--log={log}"]]:
+        with Served(prefix, ["--snapshot", snap, *words]).listens() as at:
+            check(f"{words}: what it says", at.process.stderr.readline(), said)
+            at.is_told_to_end()
+            at.ends(f"{words}: all four are there", "stopped batches 4 total 8\n", "", 0)
+        check(f"{words}: no other log", os.path.exists(log), False)
+    os.remove(earlier)
+    for _ in range(2):
+        with Served(prefix, ["--log", log]).listens() as at:
+            at.is_told_to_end()
+            at.ends("a log of its own name", "stopped batches 0 total 0\n", "", 0)
+        check("that is there", os.path.exists(log), True)
+        # An earlier one beside it is left alone.
+        with open(earlier, "wb"):
+            pass
+    check("and the earlier isn't read", os.path.getsize(earlier), 0)
+
+
 def statuses_are_those_of_the_program(prefix):
     """Faults before anything listens, as `hhm serve` tells them, and what the wrapper itself wants."""
     wrapper, unix = f"{prefix}/bin/hhm-run", ["--unix", os.path.join(server.FOLDER, "unused")]
@@ -473,6 +502,7 @@ def main():
         a_worker_that_is_held_holds_the_save(prefix)
         a_refused_save_is_told(prefix)
         a_server_that_loads_is_ended_too(prefix)
+        a_log_of_an_earlier_installation_goes_on(prefix)
         statuses_are_those_of_the_program(prefix)
     the_repository_is_in_order()
     print(f"{server.passed} passed, {server.failed} failed")

@@ -2,7 +2,7 @@
 
 This is the word `backup` of `hhm_client.py`, which asks no server:
 
-    hhmc backup /mnt/backup /var/lib/hhm/sum.snap /var/lib/hhm/sum.log
+    hhmc backup /mnt/backup /var/lib/hhm/sum.snap /var/lib/hhm/sum.hhmlog
 
 Each backup is a folder of its own below DIR, named after its time in UTC, with both files under their own names. The
 log is copied first: a save in between puts its batches into the snapshot, which is copied then. So everything that was
