@@ -478,7 +478,8 @@ def a_second_server_is_told():
         with at.link() as link:
             check("put", asked(link, put_of(FIVE), 21), accepted(0, 5))
             for words in [[], ["--snapshot", snap]]:
-                check(f"a second server, {words}", started("--log", path, *words), busy)
+                told = started("--log", path, *words, "--lock-wait", "0")
+                check(f"a second server, {words}", told, busy)
             check("nothing is saved", os.path.exists(snap), False)
             lines = log_bytes.check_line([FIVE]) + "\nlog first 0 batches 1 pages 2 rest 0\n"
             check("a check beside a server", hhm("check", snap, "--log", path), (lines, "", 0))
@@ -486,6 +487,73 @@ def a_second_server_is_told():
         kill(at)
     check("a killed one gives it back", started("--log", path), stopped(2, 8))
     check("one path for both", started("--log", snap, "--snapshot", snap), ("", "hhm: settings: SamePath\n", 2))
+
+
+def a_log_has_one_server_under_all_its_names():
+    """A link, a second name, and a lock's file that was removed: no second server writes to the log."""
+    path, snap = in_folder("named.log"), in_folder("named.snap")
+    busy = ("", "hhm: log: Busy\n", 4)
+    with Server([*SMALL, "--log", path, "--snapshot", snap], tcp=False) as at:
+        with at.link() as link:
+            check("named: put", asked(link, put_of(FIVE), 21), accepted(0, 5))
+            for turn in ("at once", "after a save"):
+                soft, hard = in_folder(f"soft {turn}"), in_folder(f"hard {turn}")
+                os.symlink(path, soft)
+                os.link(path, hard)
+                before = content(path)
+                for other in (soft, hard):
+                    told = started("--log", other, "--lock-wait", "0")
+                    check(f"named {turn}: {other}", told, busy)
+                os.remove(path + ".lock")
+                check(f"named {turn}: its lock's file is gone", started("--log", path, "--lock-wait", "0"), busy)
+                check(f"named {turn}: nothing is changed", content(path) == before, True)
+                check(f"named {turn}: save", asked(link, SAVE, 13), saved(1))
+            check("named: put more", asked(link, put_of(THREE), 21), accepted(1, 8))
+        kill(at)
+    check("named: a start", started("--log", path, "--snapshot", snap), stopped(2, 8))
+
+
+def moved(path):
+    os.rename(path, path + ".1")
+
+
+def copied_over(path):
+    shutil.copy(path, path + ".2")
+    os.rename(path + ".2", path)
+
+
+def emptied_behind_a_copy(path):
+    shutil.copy(path, path + ".3")
+    os.truncate(path, 0)
+
+
+def cut_by_a_byte(path):
+    os.truncate(path, os.path.getsize(path) - 1)
+
+
+def folder_moved(path):
+    os.rename(os.path.dirname(path), os.path.dirname(path) + " before")
+    os.mkdir(os.path.dirname(path))
+
+
+def a_log_that_is_taken_away_is_missed():
+    """Whoever moves, removes, replaces or cuts the file of a log: the next put is refused, and a save is the way out."""
+    for way in (moved, os.remove, copied_over, emptied_behind_a_copy, cut_by_a_byte, folder_moved):
+        name = f"taken away: {way.__name__}"
+        folder, snaps = in_folder(name), in_folder(name + " snap")
+        os.mkdir(folder)
+        path = os.path.join(folder, "log")
+        with Server([*SMALL, "--log", path, "--snapshot", snaps], tcp=False) as at:
+            with at.link() as link, at.link() as other:
+                check(f"{name}: put", asked(link, put_of(FIVE), 21), accepted(0, 5))
+                way(path)
+                check(f"{name}: the next one", asked(link, put_of(THREE), 15), refused(35))
+                check(f"{name}: a further one", asked(other, put_of(TWO), 15), refused(35))
+                check(f"{name}: what was answered", asked(link, put_of(FIVE), 21), accepted(0, 5))
+                check(f"{name}: a save", asked(other, SAVE, 13), saved(2))
+                check(f"{name}: after it", asked(link, put_of(THREE) + put_of(TWO), 42), accepted(1, 8) + accepted(2, 10))
+            kill(at)
+        check(f"{name}: a start", started("--log", path, "--snapshot", snaps), stopped(3, 10))
 
 
 def what_is_no_file_is_told():
@@ -619,6 +687,8 @@ def all_are_tried():
         an_old_log_goes_on,
         files_of_all_versions_are_saved_in_the_last,
         a_second_server_is_told,
+        a_log_has_one_server_under_all_its_names,
+        a_log_that_is_taken_away_is_missed,
         what_is_no_file_is_told,
         links_are_followed_once,
         rights_that_lack_are_told,

@@ -10,7 +10,6 @@ the end `N passed, M failed`; the status is 1 where one fails. Linux, Python's o
 import contextlib
 import os
 import resource
-import struct
 import subprocess
 import sys
 
@@ -18,12 +17,14 @@ import server
 from disks import CUTS, DIE_BEFORE, DIE_BEHIND, FAIL, HOLD, HOLD_AND_FAIL, OPENS, RENAMES, SHORT, SYNCS
 from disks import SYNCS_OF_FOLDERS, WRITES, Page, Room, is_until
 from log_bytes import PAGE, Log, block, entry_of, head, log
-from refused import library_of
+from refused import STATS, library_of
 from server import SMALL, Server, accepted, check, content, put_frame, refused, text
 from server_faults import SAVE, STATUS, STOP, STOPPING, asked, counts, in_folder, is_silent, received, write
 from server_log import BOTH, FIVE, STORED, THREE, TWO, hhm, in_log, kill, put_of, run_each
 from server_log import saved, snapshot_of, started, stopped
 
+# FIVE's numbers with another total.
+OTHER_FIVE = (*FIVE[:2], [(0, 0, 6)])
 LOG_FULL, LOG_FAILED, SAVE_FAILED = refused(34), refused(35), refused(42)
 # What changes a file of the log.
 CHANGES = (WRITES, CUTS, SYNCS)
@@ -64,19 +65,17 @@ def a_call_fails_under_a_put(name, call, **more):
             check(f"{name}: status", answer(link, STATUS), counts(2, 8))
             check(f"{name}: stored", answer(other, STORED), counts(1, 5))
             check(f"{name}: a further one", answer(other, put_of(TWO)), LOG_FAILED)
-            # It may be accepted, and isn't told so.
-            count, total = struct.unpack(">QQ", answer(link, STATUS)[5:])
-            check(f"{name}: status then", (count, total) in [(2, 8), (3, 10)], True)
+            check(f"{name}: the durable one with another total", answer(link, put_of(OTHER_FIVE)), refused(30))
+            check(f"{name}: status then", answer(link, STATUS), counts(2, 8))
             check(f"{name}: no further call", changes(room), made)
-            check(f"{name}: save", answer(other, SAVE), saved(count))
+            check(f"{name}: save", answer(other, SAVE), saved(2))
             check(f"{name}: again, behind the save", answer(link, put_of(THREE)), accepted(1, 8))
             check(f"{name}: the further one", answer(other, put_of(TWO)), accepted(2, 10))
             check(f"{name}: stored behind it", answer(link, STORED), counts(3, 10))
             all_of_it = [entry_of(batch) for batch in (FIVE, THREE, TWO)]
             new = Log(content(room.log))
-            check(f"{name}: the new log", new.first, count)
-            found = [*BOTH, *map(entry_of, new.all_batches())]
-            check(f"{name}: its entries", found, all_of_it if count == 2 else list(BOTH))
+            check(f"{name}: the new log", new.first, 2)
+            check(f"{name}: its entries", [*BOTH, *map(entry_of, new.all_batches())], all_of_it)
         kill(at)
     check(f"{name}: a start", started("--log", room.log, "--snapshot", room.snap), stopped(3, 10))
 
@@ -94,10 +93,8 @@ def the_first_room_fails():
         room.page.arm(SYNCS, FAIL)
         with at.link() as link:
             check("no first room: put", answer(link, put_of(FIVE)), LOG_FAILED)
-            # It may be accepted, and isn't told so.
-            told = asked(link, STATUS + STORED, 42)
-            check("no first room: status", told in (counts(0, 0) * 2, counts(1, 5) + counts(0, 0)), True)
-            check("no first room: save", answer(link, SAVE), saved(told[12]))
+            check("no first room: status", asked(link, STATUS + STORED, 42), counts(0, 0) * 2)
+            check("no first room: save", answer(link, SAVE), saved(0))
             check("no first room: put again", answer(link, put_of(FIVE)), accepted(0, 5))
         kill(at)
     check("no first room: a start", started("--log", room.log, "--snapshot", room.snap), stopped(1, 5))
@@ -221,11 +218,12 @@ def files_are_limited(most, taken, name):
             for _ in range(2):
                 check(f"full {name}: no more", answer(link, put_of(puts[taken])), LOG_FULL)
                 check(f"full {name}: status", asked(link, STATUS + STORED, 42), counts(taken, total) * 2)
-            # A repeat needs room too: only the book knows that it is one, and it is asked behind that.
-            check(f"full {name}: again", answer(link, put_of(puts[0])), LOG_FULL)
-            server.limit_files(at.process, resource.RLIM_INFINITY)
+            # What the book knows is answered from the book.
+            check(f"full {name}: again", answer(link, put_of(puts[0])), accepted(0, 1) if taken else LOG_FULL)
             if taken:
-                check(f"full {name}: room for a repeat", answer(link, put_of(puts[0])), accepted(0, 1))
+                reused = (7, 0, [(0, 0, 9)])
+                check(f"full {name}: another total", answer(link, put_of(reused)), refused(30))
+            server.limit_files(at.process, resource.RLIM_INFINITY)
             check(f"full {name}: room again", answer(link, put_of(puts[taken])), accepted(taken, totals[taken]))
         kill(at)
     check(f"full {name}: a start", started("--log", room.log), stopped(taken + 1, totals[taken]))
@@ -287,7 +285,7 @@ def a_full_disk():
         with Server(words, tcp=False) as at:
             with at.link() as link:
                 check("a full disk: a start", asked(link, STATUS + STORED, 42), counts(taken, taken) * 2)
-                check("a full disk: again", answer(link, put_frame(1, 3, text(1))) in (accepted(3, 4), LOG_FULL), True)
+                check("a full disk: again", answer(link, put_frame(1, 3, text(1))), accepted(3, 4))
                 taken = fill_disk(link, taken)
                 subprocess.run(["mount", "-o", "remount,size=64m", folder], check=True)
                 check("room again", answer(link, put_frame(1, taken, text(1))), accepted(taken, taken + 1))
@@ -488,6 +486,34 @@ def a_failed_log_alone():
     check("failed alone: a start", started("--log", room.log), stopped(2, 8))
 
 
+def a_failed_log_takes_nothing():
+    """Behind a failed sync nothing more is admitted, and the end tells what is missing: all clients know the rest."""
+    room = room_of("nothing more")
+    with serving(room, snapshot=False) as at:
+        with at.link() as link:
+            check("nothing more: put", answer(link, put_of(FIVE)), accepted(0, 5))
+            told = figures(answer(link, STATS))
+            check("nothing more: the log works", told["log_failed"], "0")
+            room.page.arm(SYNCS, FAIL)
+            check("nothing more: failed", answer(link, put_of(THREE)), LOG_FAILED)
+            refusals = {answer(link, put_frame(9, n, text(1))) for n in range(2000)}
+            check("nothing more: 2,000 further ones", refusals, {LOG_FAILED})
+            check("nothing more: status", asked(link, STATUS + STORED, 42), counts(2, 8) + counts(1, 5))
+            told = figures(answer(link, STATS))
+            check("nothing more: the log has failed", told["log_failed"], "1")
+            check("nothing more: stop", answer(link, STOP), STOPPING)
+        output, error = at.process.communicate(timeout=server.WAIT)
+        check("nothing more: last line", output, "stopped batches 1 total 5\n")
+        check("nothing more: the missing one", error, "hhm: log: NotDurable (1 batches)\n")
+        check("nothing more: its status", at.process.returncode, 4)
+
+
+def figures(reply):
+    """The lines of a Stats, by name."""
+    lines = reply[5:].decode().splitlines()
+    return dict(line.removeprefix("hhm_").rsplit(" ", 1) for line in lines)
+
+
 def a_log_is_full():
     files_are_limited(PAGE, 0, "at once")
     files_are_limited(2 * PAGE, 1, "behind one")
@@ -513,6 +539,7 @@ def all_are_tried():
         saves_fail,
         an_end_with_a_failed_log,
         a_failed_log_alone,
+        a_failed_log_takes_nothing,
     )
 
 

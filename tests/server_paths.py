@@ -68,7 +68,7 @@ def a_second_is_told():
     """Beside a server no other one starts, and nothing is folded; what only reads is not kept away."""
     with folder_of("snap") as folder:
         path, second = os.path.join(folder, "snap"), os.path.join(folder, "second")
-        words = ["serve", "--unix", second, *SMALL, "--sessions", "0", "--snapshot", path]
+        words = ["serve", "--unix", second, *SMALL, "--sessions", "0", "--snapshot", path, "--lock-wait", "0"]
         with Server([*SMALL, "--snapshot", path], tcp=False) as at:
             for more in [[], ["--must-load"], ["--must-save"], ["--must-load", "--must-save"]]:
                 check(f"a second server, {more}", hhm(*words, *more), BUSY)
@@ -110,7 +110,7 @@ def a_lock_of_another():
         with held(path):
             before = os.stat(path + ".lock").st_ino
             check("a fold of what is held", hhm("fold", path), BUSY)
-            check("a server of what is held", serve(path), BUSY)
+            check("a server of what is held", serve(path, "--lock-wait", "0"), BUSY)
             check("numbers come first", serve(path, "--workers", "0"), ("", "hhm: settings: BadWorkers\n", 2))
             check("a server of no file, held", serve(path + "x"), ("stopped batches 0 total 0\n", "", 0))
             check("the lock is as it was", os.stat(path + ".lock").st_ino, before)
@@ -120,6 +120,60 @@ def a_lock_of_another():
             write(path, b"no snapshot")
             check("a fold of no snapshot, held", hhm("fold", path), BUSY)
             check("a check of no snapshot, held", hhm("check", path), ("", "hhm: snapshot: BadMark\n", 3))
+
+
+def a_lock_is_waited_for():
+    """A start waits for the locks of both paths while another has one, and says so after a second."""
+    with folder_of("snap") as folder:
+        path, log = os.path.join(folder, "snap"), os.path.join(folder, "log")
+        words = ["serve", "--tcp", "127.0.0.1:0", *SMALL, "--sessions", "0", "--snapshot", path, "--log", log]
+        for name, of, seconds, said in [
+            ("for a moment", path, 0.3, ""),
+            ("for the snapshot", path, 1.5, f"hhm: waiting for the lock of {path}\n"),
+            ("for the log", log, 1.5, f"hhm: waiting for the lock of {log}\n"),
+        ]:
+            with held(of):
+                pipes = {"stdout": subprocess.PIPE, "stderr": subprocess.PIPE, "text": True}
+                process = subprocess.Popen([server.PROGRAM, *words], **pipes)
+                time.sleep(seconds)
+                check(f"{name}: it waits", process.poll(), None)
+            output, error = process.communicate(timeout=WAIT)
+            check(f"{name}: then it starts", output.splitlines()[1:], ["stopped batches 1 total 5"])
+            check(f"{name}: what it says", error, said)
+            check(f"{name}: status", process.returncode, 0)
+        with held(path):
+            begun = time.monotonic()
+            told = hhm(*words, "--lock-wait", "2")
+            check("no longer than it was told", 1.9 < time.monotonic() - begun < 8, True)
+            check("no longer", told, ("", f"hhm: waiting for the lock of {path}\n" + BUSY[1], 4))
+            check("not at all", hhm(*words, "--lock-wait", "0"), BUSY)
+            check("no number", hhm(*words, "--lock-wait", "-1")[2], 2)
+
+
+def names_of_other_files_are_refused():
+    """A path that ends in .new or .lock, or one path for both files, is refused before anything is opened or made."""
+    with folder_of("snap", "sum.new", "sum.lock") as folder:
+        at = lambda name: os.path.join(folder, name)
+        before = sorted(os.listdir(folder))
+        words = ["serve", "--tcp", "127.0.0.1:0", *SMALL, "--sessions", "0"]
+        bad = lambda option: ("", f"hhm: settings: BadPath ({option})\n", 2)
+        for name in ["sum.new", "sum.lock", "other.new", "other.lock", ".new", "x.new.lock"]:
+            check(f"--snapshot {name}", hhm(*words, "--snapshot", at(name)), bad("--snapshot"))
+            check(f"--log {name}", hhm(*words, "--snapshot", at("snap"), "--log", at(name)), bad("--log"))
+            check(f"--log {name} alone", hhm(*words, "--log", at(name)), bad("--log"))
+            check(f"fold {name}", hhm("fold", at(name)), bad("PATH"))
+        check("the snapshot's first", hhm(*words, "--snapshot", at("a.new"), "--log", at("a.new")), bad("--snapshot"))
+        check("before one path for both", hhm(*words, "--snapshot", at("a"), "--log", at("a.lock")), bad("--log"))
+        os.symlink(folder, at("folder"))
+        for one, other in [("sum", "./sum"), ("sum", "folder/sum"), ("folder/./sum", "sum"), ("snap", "folder/snap")]:
+            told = hhm(*words, "--snapshot", at(one), "--log", at(other))
+            check(f"{one} and {other}", told, ("", "hhm: settings: SamePath\n", 2))
+        os.remove(at("folder"))
+        check("nothing was made", sorted(os.listdir(folder)), before)
+        check("nothing was changed", [content(at(it)) for it in before], [ONE] * len(before))
+        for name in ["new", "a.new.snap", "a.locked", "a.NEW", "lock"]:
+            told = hhm(*words, "--snapshot", at(name))
+            check(f"{name} is taken", (told[1], told[2]), ("", 0))
 
 
 def two_fold_at_once():
@@ -271,6 +325,8 @@ def main():
         a_second_is_told()
         an_end_gives_the_lock_back()
         a_lock_of_another()
+        a_lock_is_waited_for()
+        names_of_other_files_are_refused()
         two_fold_at_once()
         no_file_makes_no_lock()
         a_lock_that_cannot_be_had()

@@ -97,7 +97,7 @@ def names_of(shards, count, is_logged, is_saved=False):
         *with_labels("refused_total", "code", CODES), *with_labels("frames_total", "kind", KINDS), "workers",
         "sessions_total", "sessions_open", "sessions_waiting", "received_bytes_total", "sent_bytes_total", "saves_total",
         "failed_saves_total", *(["saved_batches", "save_age_seconds"] if is_saved else []),
-        *(["log_durable_batches", "log_room_pages", "log_group_batches", "log_pages", "log_syncs_total"]
+        *(["log_durable_batches", "log_failed", "log_room_pages", "log_group_batches", "log_pages", "log_syncs_total"]
           if is_logged else []),
         *layers(shards, count),
     ]

@@ -10,7 +10,8 @@ use Rattle.mm_sum.specs.declared.fault.TextsFault.TheVariants as texts
 use Rattle.hhm.specs.declared.numbers.ListFault.{ListFault}
 use Rattle.hhm.specs.declared.numbers.ListFault.TheVariants as list
 use Rattle.hhm.specs.declared.report.Fault.{Fault}
-use Rattle.hhm.specs.declared.report.Fault.TheVariants.{BadNumber, Setup, Sum, Texts, Check, Fold, Export}
+use Rattle.hhm.specs.declared.report.Fault.TheVariants.{BadNumber, BadPath, SamePath, Setup}
+use Rattle.hhm.specs.declared.report.Fault.TheVariants.{Sum, Texts, Check, Fold, Export}
 use Rattle.snap_export.specs.declared.fault.ExportFault.{ExportFault}
 use Rattle.snap_export.specs.declared.fault.ExportFault.TheVariants as export
 use Rattle.snap_report.specs.declared.fault.CheckFault.{CheckFault}
@@ -95,6 +96,8 @@ export_status (export.Save fault) = 4
 
 abbrev pub fault_status : Fault → ℕ
 fault_status BadNumber = 2
+fault_status BadPath = 2
+fault_status SamePath = 2
 fault_status (Setup fault) = 2
 fault_status (Sum fault) = sum_status fault
 fault_status (Texts fault) = texts_status fault

@@ -5,11 +5,14 @@ use Rattle.hhm.specs.Logs.{log_status}
 use Rattle.hhm.specs.Reports.{file_status}
 use Rattle.socket_server.specs.declared.fault.ServerFault.{ServerFault}
 use Rattle.socket_server.specs.declared.fault.ServerFault.TheVariants.{Memory, BadWorkers, NoAddress, SamePath}
+use Rattle.socket_server.specs.declared.fault.ServerFault.TheVariants.{BadSnapshotPath, BadLogPath}
 use Rattle.socket_server.specs.declared.fault.ServerFault.TheVariants.{BadCompactors, SnapshotDiffers, File, Log, RecordsDiffer}
 
 abbrev pub server_status : ServerFault → ℕ
 server_status BadWorkers = 2
 server_status NoAddress = 2
+server_status BadSnapshotPath = 2
+server_status BadLogPath = 2
 server_status SamePath = 2
 server_status BadCompactors = 2
 server_status SnapshotDiffers = 2

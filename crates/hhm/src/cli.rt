@@ -84,6 +84,7 @@ PATH.lock: while a server with this snapshot runs, it is told Busy.
 A fault is one line on standard error. Where the output failed, the file is
 saved already; else it is as it was (after Rename it may be saved):
 
+  hhm: settings: BadPath (PATH)    status 2 (it ends in .new or .lock)
   hhm: file: NotFound, OpenFailed, Busy   status 4
   hhm: snapshot: KIND              status 3 (KIND Read: 4)
   hhm: file: Create, Write, Sync, Rename  status 4

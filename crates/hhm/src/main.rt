@@ -25,7 +25,7 @@ use crate::memory::keep_freed_memory;
 use crate::numbers::read_list;
 use crate::query::{range_of, side_of, top_query_of};
 use crate::report::Fault;
-use crate::serve::{settings_of, status_of};
+use crate::serve::{has_one_place, settings_of, status_of};
 use crate::sum_files::{NamedTexts, has_input, is_input_alone, place_of};
 use crate::told::run_told;
 use byte_io::{Counted, write_all};
@@ -37,7 +37,7 @@ use snap_export::{NamedFolder, run_compact, run_export_of};
 use snap_file::{LockedFile, NamedFile};
 use snap_query::{run_degrees, run_list, run_top};
 use snap_report::{NamedLog, run_check, run_check_with_log, run_export, run_fold};
-use socket_server::{ServerFault, Settings};
+use socket_server::{ServerFault, Settings, is_reserved};
 use std::alloc::AllocError;
 use std::io::IsTerminal;
 use std::process::ExitCode;
@@ -102,7 +102,13 @@ fn run(rt: &HostRuntime) -> Result<Outcome, Fault> {
 /// Does what a command line that was read asks for, but for a server.
 fn run_matches(rt: &HostRuntime, matches: &ArgMatches) -> Result<Outcome, Fault> {
     match matches.subcommand() {
-        Some(("serve", serve)) => Ok(Outcome::Serve(settings_of(rt.alloc(), serve)?)),
+        Some(("serve", serve)) => {
+            let settings = settings_of(rt.alloc(), serve)?;
+            if has_one_place(rt, &settings) {
+                return Err(Fault::SamePath);
+            }
+            Ok(Outcome::Serve(settings))
+        }
         Some(("sum", given)) => Ok(Outcome::Ended(run_sum_word(rt, given))),
         Some(("export", given)) => Ok(Outcome::Ended(run_export_word(rt, given))),
         Some((word, given)) => {
@@ -249,6 +255,7 @@ fn run_snapshot_word(
     let mut out = Counted::new(rt.stdout());
     match word {
         "check" => run_check(rt.alloc(), &mut NamedFile::new(rt, path, line), &mut out)?,
+        "fold" if is_reserved(path) => return Err(Fault::BadPath),
         "fold" => run_fold(rt.alloc(), &mut LockedFile::new(rt, path, line), &mut out)?,
         _ => run_query_word(rt, word, path, given, line)?,
     }

@@ -23,6 +23,12 @@ pub enum Fault {
     /// A number or a list of an option doesn't have its form.
     #[error("settings: BadNumber")]
     BadNumber,
+    /// The path that `fold` is to write ends in `.new` or `.lock`: beside a file hhm makes others of these names.
+    #[error("settings: BadPath (PATH)")]
+    BadPath,
+    /// The paths of a server's snapshot and log lead to one name in one folder.
+    #[error("settings: SamePath")]
+    SamePath,
     /// A server's dimensions, cuts, shards or limits are out of range.
     #[error("settings: {0}")]
     Setup(SetupFault),
@@ -174,6 +180,8 @@ impl Fault {
     {
         match self {
             Fault::BadNumber => 2,
+            Fault::BadPath => 2,
+            Fault::SamePath => 2,
             Fault::Setup(_) => 2,
             Fault::Sum(SumFault::BadCuts) => 2,
             Fault::Sum(

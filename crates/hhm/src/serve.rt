@@ -8,10 +8,13 @@ use crate::report::Fault;
 use batch_store::Setup;
 use clap::ArgMatches;
 use event_log::{EventLog, Paths};
-use snap_file::{FileFault, SnapFault};
-use socket_server::{ServerFault, Settings};
+use snap_file::{FileFault, SnapFault, folder_of};
+use socket_server::{ServerFault, Settings, is_reserved};
 use std::alloc::{AllocError, Global};
+use std::fs::{self, File};
 use std::num::NonZeroU64;
+use std::os::unix::fs::MetadataExt;
+use std::rt::Files;
 use std::sync::Arc;
 
 /// The status that a server's fault ends the program with: 2 for settings, 3 for what a snapshot or a log says, 4 for a
@@ -22,6 +25,8 @@ pub fn status_of(fault: &ServerFault) -> u8
     match fault {
         ServerFault::BadWorkers => 2,
         ServerFault::NoAddress => 2,
+        ServerFault::BadSnapshotPath => 2,
+        ServerFault::BadLogPath => 2,
         ServerFault::SamePath => 2,
         ServerFault::BadCompactors => 2,
         ServerFault::SnapshotDiffers => 2,
@@ -33,6 +38,7 @@ pub fn status_of(fault: &ServerFault) -> u8
         ServerFault::NoWorker => 4,
         ServerFault::Save(_) => 4,
         ServerFault::LastLog(_) => 4,
+        ServerFault::NotDurable { .. } => 4,
         ServerFault::Output(_) => 4,
         ServerFault::Memory => 5,
         ServerFault::RecordsDiffer => 6,
@@ -87,6 +93,35 @@ fn events_of(alloc: Global, matches: &ArgMatches) -> Result<Option<Arc<EventLog>
     Ok(Some(Arc::new(alloc, EventLog::new(alloc, paths))?))
 }
 
+// What follows the last slash of a path.
+fn last_name(path: &str) -> &str {
+    match path.rsplit_once('/') {
+        Some((_, name)) => name,
+        None => path,
+    }
+}
+
+// Which folder a path is in: its device, and its number there. None where that can't be told.
+fn folder_id<R: Files<File = File>>(rt: &R, path: &str) -> Option<(u64, u64)> {
+    let found = fs::metadata(rt, folder_of(path)).ok()?;
+    Some((found.dev(), found.ino()))
+}
+
+/// Whether the snapshot and the log lead to one name in one folder, however their paths are spelled. Of a name that they
+/// may not have something else is told.
+pub fn has_one_place<R: Files<File = File>>(rt: &R, settings: &Settings) -> bool {
+    let (Some(path), Some(log)) = (&settings.snapshot, &settings.log) else {
+        return false;
+    };
+    let (path, log) = (path.as_str(), log.as_str());
+    !is_reserved(path)
+        && last_name(path) == last_name(log)
+        && match (folder_id(rt, path), folder_id(rt, log)) {
+            (Some(one), Some(other)) => one == other,
+            _ => false,
+        }
+}
+
 /// The settings that the options spell. All numbers are read before the setup is judged.
 pub fn settings_of(alloc: Global, matches: &ArgMatches) -> Result<Settings, Fault> {
     let workers = number_of(matches, "workers")?;
@@ -95,6 +130,7 @@ pub fn settings_of(alloc: Global, matches: &ArgMatches) -> Result<Settings, Faul
     let fold_above = number_of(matches, "fold-above")?;
     let idle = limit_of(matches, "idle")?;
     let drain = limit_of(matches, "drain")?;
+    let lock_wait = limit_of(matches, "lock-wait")?;
     let setup = setup_of(alloc, matches)?;
     Ok(Settings {
         tcp: word_of(alloc, matches, "tcp")?,
@@ -106,6 +142,7 @@ pub fn settings_of(alloc: Global, matches: &ArgMatches) -> Result<Settings, Faul
         log: word_of(alloc, matches, "log")?,
         must_load: matches.get_flag("must-load"),
         must_save: matches.get_flag("must-save"),
+        lock_wait,
         sessions,
         fold_above,
         idle,

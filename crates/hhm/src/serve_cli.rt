@@ -20,13 +20,16 @@ With --log each batch is written to that file and synced before it is answered:
 what was answered as accepted is there after a kill or a loss of power, once the
 server is started again with the same --snapshot and --log. Each save begins the
 log anew behind the snapshot. Without --snapshot it grows, and nothing is saved.
-Where the disk is full, or a write failed, batches are refused (LogFull,
+Where the disk is full, or a write failed, new batches are refused (LogFull,
 LogFailed) and the server goes on; after LogFailed a save makes it take batches
-again.
+again. Without --snapshot 'stopped' counts what is durable in the log, and a
+line says how many accepted batches aren't.
 
 As long as it runs it holds the lock of the file PATH.lock, so that no second
 server and no 'hhm fold' saves there ('hhm: file: Busy'), and that of the log's
-path ('hhm: log: Busy').
+path ('hhm: log: Busy'). It waits for the time of --lock-wait while another has
+one of them. No path may end in .new or .lock: beside a file it makes others of
+these names.
 
 A connection keeps its worker until it is closed, whether it sends or not, or
 until it has sent nothing for the time of --idle, or until the time of --drain
@@ -41,6 +44,7 @@ A fault is one line on standard error:
   hhm: log: KIND at batch N        status 3
   hhm: log: LinkDiffers            status 3
   hhm: log: Create, Write, Sync, Rename, Busy   status 4
+  hhm: log: NotDurable (N batches) status 4
   hhm: listen failed: ADDRESS      status 4
   hhm: no worker                   status 4
   hhm: output failed after N bytes status 4
@@ -184,6 +188,13 @@ static OPTIONS: &[ServeOption] = &[
         value: "CELLS",
         default: Some("4194304"),
         help: "Add up what was accepted once batches have so many cells more; 0: never",
+        ..LEFT_OUT
+    },
+    ServeOption {
+        name: "lock-wait",
+        value: "SECONDS",
+        default: Some("5"),
+        help: "Wait so long at the start while another process has a lock; 0: not at all",
         ..LEFT_OUT
     },
     ServeOption {

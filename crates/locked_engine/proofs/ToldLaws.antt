@@ -46,6 +46,17 @@ judged v w b r es (Err u) setup same legal is h =
     subst (λ (l : List Entry). IsTold v (entry_of b) l (answer_of u)) (sym same)
     (told_by v all (entry_of b) r (answer_of u) here legal h)
 
+-- a batch that the book calls fresh is fresh in a version that is the book's
+pub judged_new : {T : Type 0} (v : Setting) (w : Register) (b : Submission) (r : Verdict) (es : List Entry)
+    (res : Result T NotAdmitted) → w.setup ≡ v → es ≡ entries_in w.state → r ≡ verdict_on w b →
+    OnOk res (r ≡ Fresh) → OnOk res (entry_verdict v es (entry_of b) ≡ Fresh)
+judged_new v w b r es (Err u) setup same is h = tt
+judged_new v w b r es (Ok x) setup same is h =
+    let all = entries_in w.state in
+    let here : r ≡ entry_verdict v all (entry_of b) = is
+    ∙ ap (λ (s : Setting). entry_verdict s all (entry_of b)) setup in
+    ap (λ (l : List Entry). entry_verdict v l (entry_of b)) same ∙ sym here ∙ h
+
 -- an entry that was added last stands there
 last_entry : (es : List Entry) (e : Entry) → slice_get (es ++ e ∷ []) (length es) ≡ Some e
 last_entry [] e = refl

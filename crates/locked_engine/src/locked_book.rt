@@ -15,7 +15,7 @@ ghost use Rattle.plain_engine.specs.Known.{AreFrom};
 ghost use Rattle.locked_engine.specs.Told.{Answers, IsTold, answer_of};
 ghost use Rattle.locked_engine.specs.Opened.{SharePast, IsBehind};
 ghost use Rattle.locked_engine.specs.Queues.{Follows};
-ghost use Rattle.locked_engine.specs.Versions.{IsVersion};
+ghost use Rattle.locked_engine.specs.Versions.{IsVersion, entry_verdict};
 
 use crate::fault::NotAdmitted;
 use crate::fold::{Backlog, SealedBook};
@@ -308,6 +308,7 @@ where
         ensures later { IsPrefix seen.old seen.new }
         ensures shown { OnOk result (seen.new ≡ entries_in self.now.state) }
         ensures fresh { OnOk result (verdict_on self.now b.now ≡ Fresh) }
+        ensures new { OnOk result (entry_verdict N.setup seen.new (summary_of b.now) ≡ Fresh) }
         ensures told { IfErr result (λ u. IsTold N.setup (summary_of b.now) seen.new (answer_of u)) }
     {
         if !self.show(seen) {

@@ -1,12 +1,15 @@
 //! Putting a batch.
-ghost use Rattle.std.specs.Prelude.{◌≡◌, ◌⊎◌, ◌+◌, ◌≤◌, ◌<◌, [], ◌∷◌, OnOk, OnErr, IfOk, IfErr, Ok, vec_len, vec_capacity};
+ghost use Rattle.std.specs.Prelude.{◌≡◌, ◌⊎◌, ◌+◌, ◌≤◌, ◌<◌, [], ◌∷◌, OnOk, OnErr, IfOk, IfErr, IfSome, IfNone, Ok};
+ghost use Rattle.std.specs.Prelude.{vec_len, vec_capacity};
 ghost use mathlib.Core.List.{IsPrefix};
 ghost use Rattle.std.specs.Arc.{arc_value};
 ghost use Rattle.batch_store.specs.Batches.{batch_total, entry_of};
 ghost use Rattle.batch_store.specs.BatchParts.{parts_if_any};
 ghost use Rattle.batch_store.specs.Parts.{below};
+ghost use Rattle.batch_store.specs.declared.verdict.Verdict.TheVariants.{Fresh};
 ghost use Rattle.plain_engine.specs.Known.{AreFrom};
 ghost use Rattle.locked_engine.specs.Told.{IsTold, answer_of};
+ghost use Rattle.locked_engine.specs.Versions.{entry_verdict};
 
 use crate::engine::Engine;
 use crate::fault::NotAdmitted;
@@ -113,9 +116,35 @@ impl<N: Named, H: Ledger> Engine<N, H> {
         }
     }
 
+    /// Asks the book for its verdict on a batch of the setup's dimensions, and admits nothing. None where the batch is
+    /// fresh: a put would have been its first. The seat is shown the book's entries, from which the answer follows. It
+    /// may wait for the book's lock, and takes no memory.
+    ///
+    /// # Errors
+    ///
+    /// As `put` says, but never `Memory`.
+    pub fn judge<R: Wait>(
+        &self,
+        rt: &R,
+        seat: &mut Seat<N, H>,
+        b: &Batch,
+    ) -> Option<Result<Kept, PutFault>>
+        ensures number { seat.new.number ≡ seat.old.number }
+        ensures first { seat.new.first ≡ seat.old.first }
+        ensures later { IsPrefix seat.old.seen seat.new.seen }
+        ensures told { IfSome result (λ r. IsTold N.setup (entry_of b.now) seat.new.seen r) }
+        ensures fresh { IfNone result (entry_verdict N.setup seat.new.seen (entry_of b.now) ≡ Fresh) }
+    {
+        match self.ask(rt, &mut seat.seen, b) {
+            Ok(()) => None,
+            Err(other) => Some(other.answer()),
+        }
+    }
+
     // Shows the seat what the book has now, and judges a batch by it. Err where it isn't fresh.
     fn ask<R: Wait>(&self, rt: &R, seen: &mut Version<N>, b: &Batch) -> Result<(), NotAdmitted>
         ensures later { IsPrefix seen.old seen.new }
+        ensures fresh { OnOk result (entry_verdict N.setup seen.new (entry_of b.now) ≡ Fresh) }
         ensures told { IfErr result (λ u. IsTold N.setup (entry_of b.now) seen.new (answer_of u)) }
     {
         let locked = self.book.lock(rt);

@@ -1,5 +1,5 @@
 -- A new file in memory.
-use Rattle.std.proofs.Common.{◌≡◌, ◌⊎◌, inl, inr, ⊎_elim, ℕ, List, [], get_or, sym, ◌∙◌, ap}
+use Rattle.std.proofs.Common.{◌≡◌, inl, ⊎_elim, ℕ, List, [], get_or, sym, ◌∙◌, ap}
 use Rattle.log_blocks.specs.Files.{IsSame}
 use Rattle.log_disk.specs.Memory.{Between, IsPending}
 

@@ -2,6 +2,7 @@
 ghost use Rattle.std.specs.Prelude.{◌≡◌, ◌+◌, ◌<◌, ◌^◌, [], ⊤, true, false};
 
 use crate::news::{FileCall, LogNews};
+use crate::place::Place;
 use byte_io::DeviceFault;
 use log_disk::LogDisk;
 use std::fs::File;
@@ -19,6 +20,8 @@ pub struct FileDisk {
     is_resized: bool,
     in_doubt: bool,
     failures: u64,
+    // Under which path it is to stay, where that is known.
+    place: Option<Place>,
     // Where it is noted why a call failed, if anywhere.
     news: Option<Arc<LogNews>>,
 }
@@ -41,11 +44,12 @@ fn cut_longer(file: &File, len: u64) -> io::Result<()> {
 }
 
 impl FileDisk {
-    /// The file that was opened to read and to write, and has so many bytes at least. No call of it has failed.
+    /// The file that was opened to read and to write, has so many bytes at least, and is to stay under this path. No call
+    /// of it has failed.
     ///
     /// Its first sync brings its length too to where it outlasts a loss of power, since nobody knows what an earlier
     /// life left.
-    pub fn new(file: File, length: u64) -> FileDisk
+    pub(crate) fn new(file: File, length: u64, place: Option<Place>) -> FileDisk
         ensures sound { result.in_doubt ≡ false }
         ensures failures { result.failures ≡ 0 }
     {
@@ -55,6 +59,7 @@ impl FileDisk {
             is_resized: true,
             in_doubt: false,
             failures: 0,
+            place,
             news: None,
         }
     }
@@ -78,6 +83,19 @@ impl FileDisk {
         }
         self.file.write_all_at(bytes, at)?;
         self.length = self.length.max(end);
+        Ok(())
+    }
+
+    /// Whether the file is still the log's: under its path, and as long as it was made.
+    fn look(&self) -> io::Result<()> {
+        if let Some(place) = &self.place {
+            if !place.is_kept() {
+                return Err(io::Error::from(ErrorKind::NotFound));
+            }
+        }
+        if self.file.metadata()?.len() < self.length {
+            return Err(io::Error::from(ErrorKind::UnexpectedEof));
+        }
         Ok(())
     }
 
@@ -179,7 +197,8 @@ impl LogDisk for FileDisk {
         }
     }
 
-    /// Syncs the bytes, and the length where it may have changed.
+    /// Syncs the bytes, and the length where it may have changed. Then it looks after the file: whoever moves, removes,
+    /// replaces or cuts the log of a server takes away what would be told as durable.
     fn sync(&mut self) -> Result<(), DeviceFault> {
         let synced = if self.is_resized {
             self.file.sync_all()
@@ -191,7 +210,10 @@ impl LogDisk for FileDisk {
         }
         self.is_resized = false;
         self.note_sync();
-        Ok(())
+        match self.look() {
+            Ok(()) => Ok(()),
+            Err(error) => Err(self.fail_in_doubt(FileCall::Look, &error)),
+        }
     }
 
     fn failures(&self) -> u64 {

@@ -12,6 +12,7 @@ mod file_disk;
 mod memory;
 mod naming;
 mod news;
+mod place;
 mod real;
 
 pub use calls::{FoundFile, LogFolder, NumberedFile};
@@ -20,4 +21,4 @@ pub use file_disk::FileDisk;
 pub use memory::MemoryLogFolder;
 pub use naming::{begin_named, give_name, make_with_head};
 pub use news::{FailedCall, FileCall, LogNews, StartedLog};
-pub use real::FileLogFolder;
+pub use real::{FileLogFolder, Refusal};

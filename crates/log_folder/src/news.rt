@@ -21,6 +21,8 @@ pub enum FileCall {
     Rename,
     /// A sync of the folder.
     SyncFolder,
+    /// A look after a sync: the file was moved, removed or cut.
+    Look,
 }
 
 impl FileCall {
@@ -36,6 +38,7 @@ impl FileCall {
             FileCall::Create => "Create",
             FileCall::Rename => "Rename",
             FileCall::SyncFolder => "SyncFolder",
+            FileCall::Look => "Look",
         }
     }
 }

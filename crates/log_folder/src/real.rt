@@ -5,22 +5,37 @@ use crate::calls::{FoundFile, LogFolder, NumberedFile};
 use crate::fault::FolderFault;
 use crate::file_disk::FileDisk;
 use crate::news::{FileCall, LogNews};
+use crate::place::Place;
 use byte_io::DeviceFault;
 use snap_file::{UNFINISHED, access_under, clear, folder_of, make_file};
 use sparse_log::bytes_to_read;
 use std::alloc::Global;
-use std::fs::{self, File, OpenFile, OpenOptions};
+use std::fs::{self, File, OpenFile, OpenOptions, TryLockError};
 use std::io::{self, ErrorKind};
+use std::os::unix::fs::MetadataExt;
 use std::rt::Files;
 use std::sync::Arc;
+
+/// How often a log's file is opened while others take its name in turn.
+const MOST_OPENS: usize = 5;
+
+/// Why a folder has given no file, beside a failed call.
+#[derive(Clone, Copy, Debug, PartialEq, Eq)]
+pub enum Refusal {
+    /// Another process has the lock of the log's file.
+    Busy,
+    /// A growth was refused.
+    Memory,
+}
 
 /// The folder of the log under a path, which stays open for as long as this lives. It doesn't tell its files.
 ///
 /// Two that write to the log of one path write over each other: whoever may meet another takes the path's lock first,
-/// by `snap_file::lock`.
+/// by `snap_file::lock`. A file that is found or made is locked too, as long as it is open: it may have several names.
 #[derive(Drop)]
 pub struct FileLogFolder<'a, R: Files<File = File>> {
     rt: &'a R,
+    alloc: Global,
     path: &'a str,
     // The path with `UNFINISHED` behind it.
     new_name: String,
@@ -31,6 +46,8 @@ pub struct FileLogFolder<'a, R: Files<File = File>> {
     files: u64,
     // Whether it has made one.
     has_made: bool,
+    // Why it gave no file last, where that is known.
+    refusal: Option<Refusal>,
     failures: u64,
     // Where it is noted why a call failed, if anywhere.
     news: Option<Arc<LogNews>>,
@@ -44,9 +61,46 @@ fn open_folder<R: Files<File = File>>(rt: &R, path: &str) -> Result<File, Folder
     }
 }
 
+/// Whether another open file has the lock. Where the system has no locks, none has.
+fn is_locked(file: &File) -> bool {
+    matches!(file.try_lock(), Err(TryLockError::WouldBlock))
+}
+
+/// Whether a path leads to an open file.
+fn leads_to<R: Files<File = File>>(rt: &R, path: &str, file: &File) -> io::Result<bool> {
+    let (named, open) = (fs::metadata(rt, path)?, file.metadata()?);
+    Ok(named.dev() == open.dev() && named.ino() == open.ino())
+}
+
+/// Opens the file under a path and takes its lock. Where another file has taken the name meanwhile, that is opened.
+fn open_locked<R: Files<File = File>>(rt: &R, path: &str) -> io::Result<File> {
+    for _ in 0..MOST_OPENS {
+        let file = OpenOptions::new().read(true).write(true).open(rt, path)?;
+        if is_locked(&file) {
+            break;
+        }
+        if leads_to(rt, path, &file)? {
+            return Ok(file);
+        }
+    }
+    Err(io::Error::from(ErrorKind::WouldBlock))
+}
+
+/// The path under which an open file is to stay.
+fn place_of(alloc: Global, file: &File) -> io::Result<Option<Place>> {
+    match Place::of(alloc, file) {
+        Ok(place) => Ok(place),
+        Err(_) => Err(io::Error::from(ErrorKind::OutOfMemory)),
+    }
+}
+
 /// Opens the file under a path, and tells how many of its bytes are to be read; None where nothing stands there. Nothing
 /// but a file is opened: the opening of a FIFO would wait for a writer.
-fn open_log<R: Files<File = File>>(rt: &R, path: &str) -> io::Result<Option<(FileDisk, u64)>>
+fn open_log<R: Files<File = File>>(
+    rt: &R,
+    alloc: Global,
+    path: &str,
+) -> io::Result<Option<(FileDisk, u64)>>
     ensures { IfOk result (λ found. IfSome found (λ f. (f.0.in_doubt ≡ false) × (f.0.failures ≡ 0))) }
 {
     match fs::metadata(rt, path) {
@@ -55,21 +109,31 @@ fn open_log<R: Files<File = File>>(rt: &R, path: &str) -> io::Result<Option<(Fil
         Err(error) if error.kind() == ErrorKind::NotFound => return Ok(None),
         Err(error) => return Err(error),
     }
-    let file = OpenOptions::new().read(true).write(true).open(rt, path)?;
+    let file = open_locked(rt, path)?;
+    let place = place_of(alloc, &file)?;
     let length = file.metadata()?.len();
     let to_read = bytes_to_read(&file, length);
-    Ok(Some((FileDisk::new(file, length), to_read)))
+    Ok(Some((FileDisk::new(file, length, place), to_read)))
 }
 
-/// Makes the new file of the log under a path.
-fn make_beside<R: Files<File = File>>(rt: &R, path: &str, name: &str) -> io::Result<FileDisk>
+/// Makes the new file of the log under a path, and takes its lock before it has that name.
+fn make_beside<R: Files<File = File>>(
+    rt: &R,
+    alloc: Global,
+    path: &str,
+    name: &str,
+) -> io::Result<FileDisk>
     ensures { IfOk result (λ disk. (disk.in_doubt ≡ false) × (disk.failures ≡ 0)) }
 {
     let Ok(access) = access_under(rt, path) else {
         return Err(io::Error::from(ErrorKind::Other));
     };
     let file = make_file(rt, name, access)?;
-    Ok(FileDisk::new(file, 0))
+    if is_locked(&file) {
+        return Err(io::Error::from(ErrorKind::WouldBlock));
+    }
+    let place = place_of(alloc, &file)?;
+    Ok(FileDisk::new(file, 0, place))
 }
 
 /// The same news in another hand, if there is one to be had.
@@ -101,12 +165,14 @@ impl<'a, R: Files<File = File>> FileLogFolder<'a, R> {
         };
         Ok(FileLogFolder {
             rt,
+            alloc,
             path,
             new_name,
             folder,
             snapshot_folder,
             files: 0,
             has_made: false,
+            refusal: None,
             failures: 0,
             news: None,
         })
@@ -125,6 +191,36 @@ impl<'a, R: Files<File = File>> FileLogFolder<'a, R> {
     /// Whether it has made a new file.
     pub fn has_made(&self) -> bool {
         self.has_made
+    }
+
+    /// Whether another process has the lock of the file under the path, and so writes that log.
+    pub fn is_in_use(&self) -> bool {
+        match fs::metadata(self.rt, self.path) {
+            Ok(found) if found.is_file() => {}
+            _ => return false,
+        }
+        match OpenOptions::new().read(true).open(self.rt, self.path) {
+            Ok(file) => is_locked(&file),
+            Err(_) => false,
+        }
+    }
+
+    /// Why it gave no file last, where that was no failed call.
+    pub fn refusal(&self) -> Option<Refusal> {
+        self.refusal
+    }
+
+    /// Counts a call by which a file was to be had, and that fails so.
+    fn refuse(&mut self, call: FileCall, error: &io::Error) -> DeviceFault
+        requires { self.old.failures + 1 < 2 ^ 64 }
+        ensures { self.new.failures ≡ self.old.failures + 1 }
+    {
+        self.refusal = match error.kind() {
+            ErrorKind::WouldBlock => Some(Refusal::Busy),
+            ErrorKind::OutOfMemory => Some(Refusal::Memory),
+            _ => None,
+        };
+        self.fail(call, error)
     }
 
     /// Gives a file its number.
@@ -192,25 +288,25 @@ impl<'a, R: Files<File = File>> LogFolder for FileLogFolder<'a, R> {
     ghost files_tell = { λ folder. (λ told. told, λ told. told) };
 
     fn find(&mut self) -> Result<Option<FoundFile<FileDisk>>, DeviceFault> {
-        match open_log(self.rt, self.path) {
+        match open_log(self.rt, self.alloc, self.path) {
             Ok(Some((disk, length))) => {
                 let file = self.number(disk);
                 Ok(Some(FoundFile { file, length }))
             }
             Ok(None) => Ok(None),
-            Err(error) => Err(self.fail(FileCall::Open, &error)),
+            Err(error) => Err(self.refuse(FileCall::Open, &error)),
         }
     }
 
     /// Removes what stands under the new file's name, a folder excepted, and makes the file anew. What is neither a
     /// file nor a folder under the log's name isn't replaced.
     fn make_new(&mut self) -> Result<NumberedFile<FileDisk>, DeviceFault> {
-        match make_beside(self.rt, self.path, self.new_name.as_str()) {
+        match make_beside(self.rt, self.alloc, self.path, self.new_name.as_str()) {
             Ok(disk) => {
                 self.has_made = true;
                 Ok(self.number(disk))
             }
-            Err(error) => Err(self.fail(FileCall::Create, &error)),
+            Err(error) => Err(self.refuse(FileCall::Create, &error)),
         }
     }
 

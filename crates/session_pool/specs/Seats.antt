@@ -6,7 +6,12 @@
 --     IsLogged            there is a log
 --     IsDurable           with a log, this entry stands at this place of what is known as durable, which was synced
 --     StaysRefused        the share after a refusal
---     SeatBegins          the engine may answer a put so at once; the log was asked for room alone
+--     IsNew               the batch isn't in what a seat was shown, and would have been accepted behind it
+--     IsAdmitted          the batch is in what a seat was shown, and its share rose, or the batch was there before
+--     IsLeftOut           the batch is new, and nothing was admitted: the share is as before
+--     TellsLog            a log has answered that it is full, or that it has failed
+--     SeatBegins v failed full s batch answer t
+--                         the engine may answer a put so at once; the log was asked for room alone
 --     SeatSettles         this may be known of a place; the log was asked alone
 --     IsStored            what is told as stored: with a log what is known as durable, which begins what the book has;
 --                         without one all of the version
@@ -23,6 +28,7 @@ use Rattle.layer_compaction.specs.Shared.{content}
 use Rattle.batch_store.specs.Setups.{Setting}
 use Rattle.batch_store.specs.declared.verdict.Entry.{Entry}
 use Rattle.batch_store.specs.declared.verdict.Kept.{Kept}
+use Rattle.batch_store.specs.declared.verdict.Verdict.TheVariants.{Fresh}
 use Rattle.batch_store.specs.Batches.{Submission, batch_total, entry_of}
 use Rattle.batch_store.specs.Accepted.{Accepted, entries_in, count_in}
 use Rattle.batch_store.specs.Books.{AreAccepted}
@@ -34,7 +40,7 @@ use Rattle.plain_engine.specs.declared.status.Status.{Status}
 use Rattle.locked_engine.specs.Moments.{IsShardOf, AreShards, no_sum, row_sum_in}
 use Rattle.locked_engine.specs.Opened.{SharePast}
 use Rattle.locked_engine.specs.Told.{IsTold}
-use Rattle.locked_engine.specs.Versions.{IsVersion, version_status}
+use Rattle.locked_engine.specs.Versions.{IsVersion, version_status, entry_verdict}
 use Rattle.locked_engine.specs.Views.{SeatView}
 use Rattle.wire_proto.specs.Keeping.{Event, put, cell, row, status, export, save, stored, stats, fold}
 use Rattle.wire_proto.specs.declared.keeper.FoldRefusal.TheVariants as no_fold
@@ -76,15 +82,32 @@ StaysRefused None fault batch s t = t.first ≡ s.first
 StaysRefused (Some known) RecordsDiffer batch s t = MayRise batch s t
 StaysRefused (Some known) fault batch s t = t.first ≡ s.first
 
-abbrev pub SeatBegins : Setting → Type 0 → Sight → Submission → Result Kept PutRefusal → Sight → Type 0
-SeatBegins v full s batch (Ok kept) t =
+abbrev pub IsNew : Setting → Submission → SeatView → Type 0
+IsNew v batch t = entry_verdict v t.seen (entry_of batch) ≡ Fresh
+
+abbrev pub IsLeftOut : Setting → Submission → SeatView → SeatView → Type 0
+IsLeftOut v batch s t = (t.first ≡ s.first) × IsNew v batch t
+
+abbrev pub IsAdmitted : Setting → Submission → SeatView → SeatView → Type 0
+IsAdmitted v batch s t = MayRise batch s t × (kept : Kept) × IsTold v (entry_of batch) t.seen (Ok kept)
+
+abbrev pub TellsLog : Type 0 → Type 0 → PutRefusal → Type 0
+TellsLog failed full (Refuses fault) = ⊥
+TellsLog failed full LogFull = full
+TellsLog failed full LogFailed = failed
+
+-- A batch that the book knows is answered so even where the log takes nothing more. A new one is left out then.
+abbrev pub SeatBegins : Setting → Type 0 → Type 0 → Sight → Submission → Result Kept PutRefusal → Sight → Type 0
+SeatBegins v failed full s batch (Ok kept) t =
     (t.known ≡ s.known) × LooksOn s.seat t.seat × MayRise batch s.seat t.seat ×
     IsTold v (entry_of batch) t.seat.seen (Ok kept)
-SeatBegins v full s batch (Err (Refuses fault)) t =
+SeatBegins v failed full s batch (Err (Refuses fault)) t =
     (t.known ≡ s.known) × LooksOn s.seat t.seat × (t.seat.first ≡ s.seat.first) ×
     IsTold v (entry_of batch) t.seat.seen (Err fault)
-SeatBegins v full s batch (Err LogFull) t = (t ≡ s) × IsLogged s.known × full
-SeatBegins v full s batch (Err LogFailed) t = ⊥
+SeatBegins v failed full s batch (Err LogFull) t =
+    (t.known ≡ s.known) × LooksOn s.seat t.seat × IsLeftOut v batch s.seat t.seat × IsLogged s.known × full
+SeatBegins v failed full s batch (Err LogFailed) t =
+    (t.known ≡ s.known) × LooksOn s.seat t.seat × IsLeftOut v batch s.seat t.seat × IsLogged s.known × failed
 
 -- what stands at the place of what was shown stands there in what is known as durable
 abbrev pub HasPlace : (List Entry → Type 0) → List Entry → ℕ → Option (List Entry) → Type 0
@@ -109,12 +132,13 @@ IsStored v synced a seen (Some known) =
 -- A put, a status, a save, a Stats and a Fold show the seat a version, of which the answer is true: a put's is that
 -- version's word on the batch, whose total is added to the seat's share where the put was the first; a saved list has
 -- just its entries, what was folded when the engine was opened is folded in it, and behind it batches that were folded
--- since. With a log a put is accepted once its entry is known as durable. Where the log was full the put leaves the
--- seat as it is; where it had failed, the batch may be accepted all the same. A cell, a row and the parts of an export
--- are what a shard of the row's number showed under its lock at a moment of the call, over its part of the base that
--- the engine was opened with and of batches that were folded since; they leave the seat as it is. What is known as
--- durable only grows by a Fold. It answers a number where it has folded, at least as many batches as the seat had been
--- shown before; it is told as failed where a log has answered that, and nothing is said of one that is told as Memory.
+-- since. With a log a put is accepted once its entry is known as durable. Where the log was full or had failed a new
+-- batch is left out, and a batch that the book knows gets its reply if its entry is durable. Where the log fails under a
+-- put, the batch is admitted and not known to be durable. A cell, a row and the parts of an export are what a shard of
+-- the row's number showed under its lock at a moment of the call, over its part of the base that the engine was opened
+-- with and of batches that were folded since; they leave the seat as it is. What is known as durable only grows by a
+-- Fold. It answers a number where it has folded, at least as many batches as the seat had been shown before; it is told
+-- as failed where a log has answered that, and nothing is said of one that is told as Memory.
 abbrev pub SeatGives : Setting → Accepted → (Accepted → Type 0) → (List Entry → Type 0) → Type 0 → Type 0 → Sight →
     Event → Sight → Type 0
 SeatGives v opened saved synced failed full s (put batch (Ok kept)) t =
@@ -123,9 +147,11 @@ SeatGives v opened saved synced failed full s (put batch (Ok kept)) t =
 SeatGives v opened saved synced failed full s (put batch (Err (Refuses fault))) t =
     Grows s.known t.known × LooksOn s.seat t.seat × StaysRefused t.known fault batch s.seat t.seat ×
     IsTold v (entry_of batch) t.seat.seen (Err fault)
-SeatGives v opened saved synced failed full s (put batch (Err LogFull)) t = (t ≡ s) × IsLogged s.known × full
+SeatGives v opened saved synced failed full s (put batch (Err LogFull)) t =
+    Grows s.known t.known × LooksOn s.seat t.seat × IsLeftOut v batch s.seat t.seat × IsLogged t.known × full
 SeatGives v opened saved synced failed full s (put batch (Err LogFailed)) t =
-    Grows s.known t.known × LooksOn s.seat t.seat × MayRise batch s.seat t.seat × IsLogged t.known × failed
+    Grows s.known t.known × LooksOn s.seat t.seat ×
+    (IsAdmitted v batch s.seat t.seat ⊎ IsLeftOut v batch s.seat t.seat) × IsLogged t.known × failed
 SeatGives v opened saved synced failed full s (cell r c (Some count)) t =
     (t ≡ s) × (x : Holding) × IsShardOf v opened (r % v.shards) x × (get (content x.layers) (r, c) ≡ Some count)
 SeatGives v opened saved synced failed full s (cell r c None) t = t ≡ s

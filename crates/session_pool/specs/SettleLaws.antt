@@ -1,7 +1,7 @@
 -- That a put over a seat is begun and settled as the laws of a keeper say.
 use Rattle.std.specs.Prelude.{◌≡◌, ℕ, zero, suc, List, [], ◌∷◌, ◌++◌, slice_get, Option, Some, None, Result, Ok, Err}
 use Rattle.std.specs.Prelude.{refl}
-use Rattle.std.proofs.Common.{inr}
+use Rattle.std.proofs.Common.{inl, inr}
 use Rattle.std.proofs.Common.{sym, subst, ◌∙◌}
 use Rattle.std.proofs.lemmas.Option.{none-some}
 use Rattle.std.proofs.lemmas.List.{append-nil}
@@ -21,7 +21,7 @@ use Rattle.wire_proto.specs.declared.keeper.PutRefusal.TheVariants.{Put as Refus
 use Rattle.wire_proto.specs.declared.keeper.Settled.{Settled}
 use Rattle.wire_proto.specs.declared.keeper.Settled.TheVariants as place_is
 use Rattle.session_pool.specs.Seats.{Sight, sight, LooksOn, MayRise, Grows, IsLogged, IsDurable, StaysRefused, HasPlace}
-use Rattle.session_pool.specs.Seats.{SeatBegins, SeatSettles, SeatGives}
+use Rattle.session_pool.specs.Seats.{IsNew, IsLeftOut, SeatBegins, SeatSettles, SeatGives}
 
 stays_there : {A : Type 0} (xs zs : List A) (k : ℕ) (x : A) → slice_get xs k ≡ Some x → slice_get (xs ++ zs) k ≡ Some x
 stays_there [] zs k x h = absurd (none-some x h)
@@ -100,40 +100,46 @@ module _ (synced : List Entry → Type 0) where
   settles_seat failed m t place place_is.LogFailed h = (h.0, h.1)
   settles_seat failed m t place place_is.RecordsDiffer h = (h.0, h.1)
 
-module _ (v : Setting) (full : Type 0) where
+module _ (v : Setting) (failed full : Type 0) where
   -- a put that is begun leaves what is known, and shows the seat no less
   begins_seat : (s m : Sight) (batch : Submission) (answer : Result Kept PutRefusal) →
-      SeatBegins v full s batch answer m → (m.known ≡ s.known) × IsPrefix s.seat.seen m.seat.seen
+      SeatBegins v failed full s batch answer m → (m.known ≡ s.known) × IsPrefix s.seat.seen m.seat.seen
   begins_seat s m batch (Ok kept) b = (b.0, b.1.1)
   begins_seat s m batch (Err (Refuses f)) b = (b.0, b.1.1)
-  begins_seat s m batch (Err LogFull) b = (
-    (λ i. (b.0 i).known),
-    ([], append-nil s.seat.seen ∙ sym (λ i. (b.0 i).seat.seen)),
+  begins_seat s m batch (Err LogFull) b = (b.0, b.1.1)
+  begins_seat s m batch (Err LogFailed) b = (b.0, b.1.1)
+
+  left_later : (s m t : Sight) (batch : Submission) (told : Type 0) → m.known ≡ s.known → LooksOn s.seat m.seat →
+      IsLeftOut v batch s.seat m.seat → IsLogged s.known → told → t.seat ≡ m.seat → Grows m.known t.known →
+      (t.known ≡ t.known) × LooksOn s.seat t.seat × IsLeftOut v batch s.seat t.seat × IsLogged t.known × told
+  left_later s m t batch told kept looks out logged h same grows = (
+    refl,
+    subst (LooksOn s.seat) (sym same) looks,
+    subst (IsLeftOut v batch s.seat) (sym same) out,
+    logged_later m.known t.known grows (subst IsLogged (sym kept) logged),
+    h,
   )
-  begins_seat s m batch (Err LogFailed) b = absurd b
 
   -- what is known more by then changes nothing of it
   begins_later : (s m t : Sight) (batch : Submission) (answer : Result Kept PutRefusal) →
-      SeatBegins v full s batch answer m → t.seat ≡ m.seat → Grows m.known t.known →
-      SeatBegins v full (sight s.seat t.known) batch answer t
+      SeatBegins v failed full s batch answer m → t.seat ≡ m.seat → Grows m.known t.known →
+      SeatBegins v failed full (sight s.seat t.known) batch answer t
   begins_later s m t batch (Ok kept) b same grows =
       subst (λ (x : SeatView). (t.known ≡ t.known) × LooksOn s.seat x × MayRise batch s.seat x
       × IsTold v (entry_of batch) x.seen (Ok kept)) (sym same) (refl, b.1, b.2, b.3)
   begins_later s m t batch (Err (Refuses f)) b same grows =
       subst (λ (x : SeatView). (t.known ≡ t.known) × LooksOn s.seat x × (x.first ≡ s.seat.first)
       × IsTold v (entry_of batch) x.seen (Err f)) (sym same) (refl, b.1, b.2, b.3)
-  begins_later s m t batch (Err LogFull) b same grows = (
-    (λ i. sight ((same ∙ (λ j. (b.0 j).seat)) i) t.known),
-    logged_later m.known t.known grows (subst (λ (x : Sight). IsLogged x.known) (sym b.0) b.1),
-    b.2,
-  )
-  begins_later s m t batch (Err LogFailed) b same grows = absurd b
+  begins_later s m t batch (Err LogFull) b same grows =
+      left_later s m t batch full b.0 b.1 b.2 b.3 b.4 same grows
+  begins_later s m t batch (Err LogFailed) b same grows =
+      left_later s m t batch failed b.0 b.1 b.2 b.3 b.4 same grows
 
 module _ (v : Setting) (opened : Accepted) (saved : Accepted → Type 0) (synced : List Entry → Type 0)
     (failed full : Type 0) where
   -- a refusal is what the put is answered
   pub refused_gives : (s t : Sight) (batch : Submission) (refusal : PutRefusal) →
-      SeatBegins v full s batch (Err refusal) t →
+      SeatBegins v failed full s batch (Err refusal) t →
       SeatGives v opened saved synced failed full s (put batch (Err refusal)) t
   refused_gives s t batch (Refuses f) b = (
     grows_same s.known t.known b.0,
@@ -141,12 +147,24 @@ module _ (v : Setting) (opened : Accepted) (saved : Accepted → Type 0) (synced
     stays_refused t.known f batch s.seat t.seat b.2,
     b.3,
   )
-  refused_gives s t batch LogFull b = b
-  refused_gives s t batch LogFailed b = absurd b
+  refused_gives s t batch LogFull b = (
+    grows_same s.known t.known b.0,
+    b.1,
+    b.2,
+    subst IsLogged (sym b.0) b.3,
+    b.4,
+  )
+  refused_gives s t batch LogFailed b = (
+    grows_same s.known t.known b.0,
+    b.1,
+    inr b.2,
+    subst IsLogged (sym b.0) b.3,
+    b.4,
+  )
 
   -- what was accepted is answered once its place was settled
   pub answered_gives : (s m t : Sight) (batch : Submission) (kept : Kept) (known : Settled) →
-      SeatBegins v full s batch (Ok kept) m → SeatSettles synced failed m kept.index known t →
+      SeatBegins v failed full s batch (Ok kept) m → SeatSettles synced failed m kept.index known t →
       SeatGives v opened saved synced failed full s (put batch (settled kept known)) t
   answered_gives s m t batch kept place_is.Durable b h = (
     subst (λ k. Grows k t.known) b.0 h.1,
@@ -158,7 +176,11 @@ module _ (v : Setting) (opened : Accepted) (saved : Accepted → Type 0) (synced
   answered_gives s m t batch kept place_is.LogFailed b h = (
     subst (λ k. Grows k t.known) b.0 h.1,
     subst (LooksOn s.seat) (sym h.0) b.1,
-    subst (MayRise batch s.seat) (sym h.0) b.2,
+    inl (
+      subst (MayRise batch s.seat) (sym h.0) b.2,
+      kept,
+      subst (λ (x : SeatView). IsTold v (entry_of batch) x.seen (Ok kept)) (sym h.0) b.3,
+    ),
     h.2,
     h.3,
   )
@@ -171,12 +193,12 @@ module _ (v : Setting) (opened : Accepted) (saved : Accepted → Type 0) (synced
 
   -- what is settled behind a put that was begun could have been settled before it
   pub settled_earlier : (s m t : Sight) (batch : Submission) (answer : Result Kept PutRefusal) (place : ℕ)
-      (known : Settled) → SeatBegins v full s batch answer m → SeatSettles synced failed m place known t →
+      (known : Settled) → SeatBegins v failed full s batch answer m → SeatSettles synced failed m place known t →
       SeatSettles synced failed s place known (sight s.seat t.known) ×
-      SeatBegins v full (sight s.seat t.known) batch answer t
+      SeatBegins v failed full (sight s.seat t.known) batch answer t
   settled_earlier s m t batch answer place known b h =
-      let begun = begins_seat v full s m batch answer b in
+      let begun = begins_seat v failed full s m batch answer b in
       let seat = settles_seat synced failed m t place known h in (
         settles_before synced failed s m t place known begun.0 begun.1 h,
-        begins_later v full s m t batch answer b seat.0 seat.1,
+        begins_later v failed full s m t batch answer b seat.0 seat.1,
       )

@@ -5,7 +5,7 @@ use crate::file_log::FileLog;
 use crate::log_place::LogPlace;
 use batch_store::{BookList, Setup};
 use byte_io::WriteFault;
-use log_folder::{FileLogFolder, FolderFault, LogNews, RotateFault};
+use log_folder::{FileLogFolder, FolderFault, LogNews, Refusal, RotateFault};
 use snap_file::SaveFault;
 use std::alloc::Global;
 use std::fs::File;
@@ -51,6 +51,9 @@ impl<R: Files<File = File>> LogPlace<FileLog> for R {
         match begin_stored(&mut folder, alloc, setup, list) {
             Ok(stored) => Ok(FileLog::new(stored)),
             Err(StoredFault::Memory) => Err(SaveFault::Memory),
+            Err(StoredFault::File(_)) if folder.refusal() == Some(Refusal::Memory) => {
+                Err(SaveFault::Memory)
+            }
             Err(StoredFault::File(fault)) => Err(of_rotation(fault)),
         }
     }

@@ -1,8 +1,8 @@
 //! A log that threads share, as one session uses it.
-ghost use Rattle.std.specs.Prelude.{◌≡◌, ◌⊎◌, ◌<◌, ◌≤◌, [], ◌∷◌, length, Some, Err, IfSome, IfNone, OnOk};
+ghost use Rattle.std.specs.Prelude.{◌≡◌, ◌<◌, ◌≤◌, [], ◌∷◌, length, Some, Err, IfOk, IfErr, OnOk};
 ghost use Rattle.std.specs.Arc.{arc_value};
 ghost use mathlib.Core.List.{IsPrefix};
-ghost use Rattle.session_pool.specs.Seats.{sight, SeatBegins, SeatSettles, IsStored};
+ghost use Rattle.session_pool.specs.Seats.{sight, SeatBegins, SeatSettles, IsStored, TellsLog};
 
 use batch_store::{Batch, Kept};
 use locked_engine::{Engine, Named, Seat, Status};
@@ -52,17 +52,18 @@ impl<'a, N: Named, L: Log> SessionLog<'a, N, L> {
         self.desk
     }
 
-    // Room for a batch, None where the log is full. Where it has failed there is none to be promised, and the batch is
-    // put all the same: a repeat is accepted if its first is durable.
-    fn enter<R: Wait>(&self, rt: &R, batch: &Arc<Batch>) -> Option<Ticket>
-        ensures room { IfSome result (λ t. (t ≡ L.takes (arc_value batch.now ∷ [])) ⊎ L.has_failed) }
-        ensures full { IfNone result L.was_full }
+    // Room for a batch, or why the log takes none.
+    fn enter<R: Wait>(&self, rt: &R, batch: &Arc<Batch>) -> Result<Ticket, PutRefusal>
+        ensures room { IfOk result (λ t. t ≡ L.takes (arc_value batch.now ∷ [])) }
+        ensures told { IfErr result (λ r. TellsLog L.has_failed L.was_full r) }
     {
         let pages = L::pages_of(slice::from_ref(batch));
         match self.desk.enter(rt, pages) {
-            Ok(ticket) => Some(ticket),
-            Err(DeskFault::LogFull) => None,
-            Err(DeskFault::LogFailed | DeskFault::HistoriesDiffer) => Some(Ticket::none()),
+            Ok(ticket) => Ok(ticket),
+            Err(DeskFault::LogFull) => Err(PutRefusal::LogFull),
+            Err(DeskFault::LogFailed) => Err(PutRefusal::LogFailed),
+            // Room is asked for alone, and not whether the book has a place.
+            Err(DeskFault::HistoriesDiffer) => unreachable!(),
         }
     }
 
@@ -78,11 +79,38 @@ impl<'a, N: Named, L: Log> SessionLog<'a, N, L> {
         }
     }
 
-    /// Has the log promise room for a batch, and the engine accept it.
+    // What a batch is answered where the log takes nothing more, for this reason: the book's word on one that it knows
+    // or refuses. A new one is left out.
+    fn begin_unlogged<H: Ledger, R: Wait>(
+        &mut self,
+        rt: &R,
+        engine: &Engine<N, H>,
+        seat: &mut Seat<N, H>,
+        batch: &Arc<Batch>,
+        why: PutRefusal,
+    ) -> Result<Kept, PutRefusal>
+        requires told { TellsLog L.has_failed L.was_full why }
+        ensures { SeatBegins N.setup L.has_failed L.was_full (sight seat.old (Some self.old)) (arc_value batch.now)
+            result (sight seat.new (Some self.new)) }
+    {
+        match engine.judge(rt, seat, batch) {
+            None => Err(why),
+            Some(Ok(kept)) => {
+                self.keep(rt, Ticket::none(), true);
+                Ok(kept)
+            }
+            Some(Err(fault)) => Err(PutRefusal::Put(fault)),
+        }
+    }
+
+    /// Has the log promise room for a batch, and the engine accept it. Where the log takes nothing more the engine is
+    /// asked for the book's verdict alone: a batch that it knows is answered the reply that it keeps, to be settled as
+    /// any other.
     ///
     /// # Errors
     ///
-    /// - `LogFull`: there is no room for the batch. The engine wasn't asked.
+    /// - `LogFull`, `LogFailed`: the log has no room for the batch, or a call on it has failed, and the batch is new.
+    ///   Nothing was admitted.
     /// - `Put`: as `Engine::put` says. What was promised went back.
     pub fn begin_put<H: Ledger, R: Wait>(
         &mut self,
@@ -94,11 +122,12 @@ impl<'a, N: Named, L: Log> SessionLog<'a, N, L> {
     ) -> Result<Kept, PutRefusal>
         requires rows { (arc_value batch).matrix.rows ≡ N.setup.rows }
         requires cols { (arc_value batch).matrix.cols ≡ N.setup.cols }
-        ensures { SeatBegins N.setup L.was_full (sight seat.old (Some self.old)) (arc_value batch) result
-            (sight seat.new (Some self.new)) }
+        ensures { SeatBegins N.setup L.has_failed L.was_full (sight seat.old (Some self.old)) (arc_value batch)
+            result (sight seat.new (Some self.new)) }
     {
-        let Some(ticket) = self.enter(rt, &batch) else {
-            return Err(PutRefusal::LogFull);
+        let ticket = match self.enter(rt, &batch) {
+            Ok(ticket) => ticket,
+            Err(why) => return self.begin_unlogged(rt, engine, seat, &batch, why),
         };
         let answer = engine.put(rt, alloc, seat, batch);
         self.keep(rt, ticket, answer.is_ok());

@@ -204,9 +204,11 @@ fn push_counters<R: Machine>(
 fn push_log(
     out: &mut Vec<Figure>,
     desk: DeskFigures,
+    is_failed: bool,
     news: Option<&LogNews>,
 ) -> Result<(), AllocError> {
     out.push(number("log_durable_batches", desk.durable))?;
+    out.push(number("log_failed", if is_failed { 1 } else { 0 }))?;
     out.push(number("log_room_pages", desk.room))?;
     out.push(number("log_group_batches", desk.group))?;
     let Some(news) = news else {
@@ -238,7 +240,7 @@ pub(crate) fn figures_of<N: Named, H: Ledger, L: Log, R: Wait + Machine>(
         push_counters(rt, &mut out, counters, sight.batches)?;
     }
     if let Some(desk) = sight.desk {
-        push_log(&mut out, desk.figures(rt), sight.news)?;
+        push_log(&mut out, desk.figures(rt), desk.is_failed(rt), sight.news)?;
     }
     push_shards(rt, alloc, &mut out, engine)?;
     Ok(out)

@@ -1,3 +1,4 @@
 mod SeatLaws
 mod FaultLaws
 mod StartLaws
+mod EndLaws

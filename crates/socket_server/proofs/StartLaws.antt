@@ -1,5 +1,5 @@
 -- What a host has answered to a load and to a start of the log, in the words of the server.
-use Rattle.std.proofs.Common.{◌≡◌, ◌≢◌, ◌⊎◌, inl, inr, ℕ, List, sym, ap, ◌∙◌, subst}
+use Rattle.std.proofs.Common.{◌≡◌, ◌≢◌, inl, inr, ℕ, List, sym, ap, ◌∙◌, subst}
 use Rattle.std.specs.Prelude.{Bool, Option, Some, None, Result, Ok, Err, IfOk, IfErr, String, string_bytes}
 use Rattle.hyper_matrix.specs.Matrix.{matrix}
 use Rattle.batch_store.specs.Accepted.{Accepted}
@@ -9,7 +9,7 @@ use Rattle.log_start.specs.declared.fault.StartFault.{StartFault}
 use Rattle.snap_file.specs.Snapshots.{Saved, saved, HasBase}
 use Rattle.snap_file.specs.declared.fault.FileFault.{FileFault}
 use Rattle.socket_server.specs.declared.fault.ServerFault.{ServerFault}
-use Rattle.socket_server.specs.declared.fault.ServerFault.TheVariants.{Memory, SnapshotDiffers}
+use Rattle.socket_server.specs.declared.fault.ServerFault.TheVariants.{SnapshotDiffers}
 use Rattle.socket_server.specs.Starts.{HasLoaded, IsLoaded, IsJoined, StartsFrom, IsLoadTold, most_bytes}
 use Rattle.socket_server.specs.Starts.{IsStartTold, IsLogTold}
 

@@ -1,32 +1,41 @@
 -- What a server ends with, by the word of its disk.
---     EndsWith saves d path v a s
---                     an engine of setup v was closed with this as accepted, which a book accepts: s tells its number
---                     of batches and its total, and where there is a path the disk d has answered that it was saved
---                     under it
+--     EndsWith saves d path v a
+--                     an engine of setup v was closed with this as accepted, which a book accepts; and where there is a
+--                     path the disk d has answered that it was saved under it
 --     GoesOn a b      what an engine had accepted when it was closed, b, goes on from what it was opened with, a: the
 --                     entries of a are the first of b's, and what is folded in a is folded in b, and behind it batches that
 --                     were folded since
---     IsStored synced has_log a b
---                     where there is a log, a sync of it has made this much durable at the end: all that the engine was
---                     opened with, a, and of what it had accepted when it was closed, b, a beginning
+--     IsStored synced has_log path a b s
+--                     s tells what is stored at the end of an engine that was opened with a and closed with b, and how
+--                     many batches aren't. Without a log, or with a snapshot's path, that is all of b. With a log alone
+--                     it is what a sync of the log has made durable. In each case a log has made durable at least a, and
+--                     of b a beginning
+--     HasEnded saves d synced path v has_log a s
+--                     a server of setup v that started with a was closed with something that goes on from it; that was
+--                     saved where there is a path, and s tells what is stored of it
+--     IsShort ends f  that so many batches aren't durable is told only where a server has ended so
 --     IsClosed seats a
 --                     what the seats of an engine say of what it had accepted when it was closed
-use Rattle.std.specs.Prelude.{◌≡◌, ℕ, List, Bool, true, false, Option, String}
+use Rattle.std.specs.Prelude.{◌≡◌, ℕ, ◌+◌, ◌≤◌, List, length, Bool, true, false, Option, Some, None, String}
 use mathlib.Core.List.{IsPrefix}
 use Rattle.batch_store.specs.declared.verdict.Entry.{Entry}
 use Rattle.batch_store.specs.Setups.{Setting}
-use Rattle.batch_store.specs.Accepted.{Accepted, entries_in, total_in}
+use Rattle.batch_store.specs.Accepted.{Accepted, entries_in, count_in, total_in}
 use Rattle.batch_store.specs.Books.{AreAccepted}
 use Rattle.plain_engine.specs.declared.status.Status.{Status}
 use Rattle.plain_engine.specs.Object.{status_of}
 use Rattle.locked_engine.specs.Opened.{firsts, SharePast}
 use Rattle.locked_engine.specs.Told.{AreShown}
+use Rattle.locked_engine.specs.Versions.{version_status}
 use Rattle.locked_engine.specs.Views.{SeatView}
 use Rattle.session_pool.specs.Saves.{IsSaved}
+use Rattle.socket_server.specs.declared.fault.ServerFault.{ServerFault}
+use Rattle.socket_server.specs.declared.fault.ServerFault.TheVariants.{NotDurable}
+use Rattle.socket_server.specs.declared.stopped.Stopped.{Stopped}
 
 abbrev pub EndsWith : {D Z : Type 0} → (D → List ℕ → Setting → Accepted → Type 0) → D → Option (String Z) →
-    Setting → Accepted → Status → Type 0
-EndsWith saves d path v a s = AreAccepted v a × (s ≡ status_of a) × IsSaved saves d path v a
+    Setting → Accepted → Type 0
+EndsWith saves d path v a = AreAccepted v a × IsSaved saves d path v a
 
 pub record GoesOn (a b : Accepted) : Type 0 where
   pub entries : IsPrefix (entries_in a) (entries_in b)
@@ -37,7 +46,27 @@ pub record IsClosed (seats : List SeatView) (a : Accepted) : Type 0 where
   pub shares : firsts seats ≡ total_in a
   pub shown : AreShown seats (entries_in a)
 
-abbrev pub IsStored : (List Entry → Type 0) → Bool → Accepted → Accepted → Type 0
-IsStored synced false a b = Unit {0}
-IsStored synced true a b =
-    (es : List Entry) × synced es × IsPrefix (entries_in a) es × IsPrefix es (entries_in b)
+abbrev pub stopped : Status → ℕ → Stopped
+stopped status missing = record { status = status; missing = missing }
+
+-- a log has made this durable, which goes on from a and begins b
+abbrev pub IsSynced : (List Entry → Type 0) → Accepted → Accepted → List Entry → Type 0
+IsSynced synced a b es = synced es × IsPrefix (entries_in a) es × IsPrefix es (entries_in b)
+
+abbrev pub IsStored : {Z : Type 0} → (List Entry → Type 0) → Bool → Option (String Z) → Accepted → Accepted → Stopped →
+    Type 0
+IsStored synced false path a b s = s ≡ stopped (status_of b) 0
+IsStored synced true (Some path) a b s =
+    (s ≡ stopped (status_of b) 0) × (es : List Entry) × IsSynced synced a b es
+IsStored synced true None a b s =
+    (es : List Entry) × IsSynced synced a b es × (s.status ≡ version_status es) ×
+    (length es + s.missing ≡ count_in b)
+
+abbrev pub HasEnded : {D Z : Type 0} → (D → List ℕ → Setting → Accepted → Type 0) → D → (List Entry → Type 0) →
+    Option (String Z) → Setting → Bool → Accepted → Stopped → Type 0
+HasEnded saves d synced path v has_log a s =
+    (b : Accepted) × GoesOn a b × EndsWith saves d path v b × IsStored synced has_log path a b s
+
+abbrev pub IsShort : (Stopped → Type 0) → ServerFault → Type 0
+IsShort ends (NotDurable batches) = (status : Status) × (1 ≤ batches) × ends (stopped status batches)
+IsShort ends _ = Unit {0}

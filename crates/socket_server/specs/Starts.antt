@@ -1,4 +1,7 @@
 -- What a server starts with, by the word of its host.
+--     has_reserved_end path
+--                     it ends in .new or .lock: beside a file hhm makes others of these names
+--     IsReserved path there is a path, and it ends so
 --     IsOnePath path log
 --                     there is a snapshot and a log, and they have the same path
 --     IsLoaded loads h path must_load v a
@@ -21,7 +24,9 @@
 --                     a fault of the log is told only where the host has answered it, to a start of the log over what
 --                     was loaded; or that another has the log's lock, or that it can't be had
 use Rattle.std.specs.Prelude.{◌≡◌, ◌≢◌, ◌⊎◌, ℕ, ◌^◌, Bool, true, false, List, [], Option, Some, None, is_some}
-use Rattle.std.specs.Prelude.{Result, Ok, Err, String, string_bytes}
+use Rattle.std.specs.Prelude.{Result, Ok, Err, String, string_bytes, ◌||◌, eqb, codes}
+use Rattle.std.specs.Bool.{IsTrue}
+use Rattle.std.specs.List.{ends_with}
 use Rattle.batch_store.specs.Setups.{Setting}
 use Rattle.batch_store.specs.declared.verdict.Entry.{Entry}
 use Rattle.batch_store.specs.Accepted.{Accepted, entries_in, unfolded}
@@ -35,6 +40,13 @@ use Rattle.log_start.specs.declared.fault.StartFault.TheVariants as start
 use Rattle.socket_server.specs.Ends.{GoesOn}
 use Rattle.socket_server.specs.declared.fault.ServerFault.{ServerFault}
 use Rattle.socket_server.specs.declared.fault.ServerFault.TheVariants.{SnapshotDiffers, File, Log}
+
+abbrev pub has_reserved_end : List ℕ → Bool
+has_reserved_end path = ends_with eqb path (codes ".new") || ends_with eqb path (codes ".lock")
+
+abbrev pub IsReserved : {Z : Type 0} → Option (String Z) → Type 0
+IsReserved None = ⊥
+IsReserved (Some path) = IsTrue (has_reserved_end (string_bytes path))
 
 abbrev pub IsOnePath : {Y Z : Type 0} → Option (String Y) → Option (String Z) → Type 0
 IsOnePath (Some path) (Some log) = string_bytes path ≡ string_bytes log

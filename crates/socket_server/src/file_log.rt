@@ -9,13 +9,15 @@ ghost use Rattle.socket_server.specs.Ends.{GoesOn};
 use crate::log_host::LogHost;
 use batch_store::{BookList, Setup};
 use log_file::LogMark;
-use log_folder::{FileLogFolder, FolderFault, LogFolder, LogNews, StartedLog};
+use log_folder::{FileLogFolder, FolderFault, LogFolder, LogNews, Refusal, StartedLog};
 use log_start::{StartFault, Started};
 use session_pool::FileLog;
 use std::alloc::Global;
 use std::fs::File;
 use std::rt::Files;
 use std::sync::Arc;
+use std::thread;
+use std::time::{Clock, Duration};
 use stored_log::StoredLog;
 
 // Why there is no folder of a log.
@@ -23,6 +25,31 @@ fn folder_fault(fault: FolderFault) -> StartFault {
     match fault {
         FolderFault::Memory => StartFault::Memory,
         FolderFault::OpenFailed => StartFault::Create,
+    }
+}
+
+/// How often it is looked whether another process has the log's file, and how many milliseconds there are between. Who was
+/// killed gives its locks back one after another.
+const LOOKS: usize = 20;
+
+const PAUSE: u64 = 50;
+
+// Waits a second at most, while another process has the log's file.
+fn await_file<R: Files<File = File> + Clock>(rt: &R, folder: &FileLogFolder<'_, R>) {
+    for _ in 0..LOOKS {
+        if !folder.is_in_use() {
+            break;
+        }
+        thread::sleep(rt, Duration::from_millis(PAUSE));
+    }
+}
+
+// Why a log wasn't started whose folder may have refused a file.
+fn start_fault(refusal: Option<Refusal>, fault: StartFault) -> StartFault {
+    match refusal {
+        Some(Refusal::Busy) => StartFault::Busy,
+        Some(Refusal::Memory) => StartFault::Memory,
+        None => fault,
     }
 }
 
@@ -71,7 +98,7 @@ fn start_untold<F: LogFolder>(
     }
 }
 
-impl<R: Files<File = File>> LogHost<FileLog> for R {
+impl<R: Files<File = File> + Clock> LogHost<FileLog> for R {
     ghost log_starts = { λ h path setup known answer. ⊤ };
 
     fn start_log(
@@ -87,13 +114,14 @@ impl<R: Files<File = File>> LogHost<FileLog> for R {
             Ok(folder) => folder.telling(Some(news)),
             Err(fault) => return Err(folder_fault(fault)),
         };
+        await_file(self, &folder);
         let mut mark = None;
         match start_untold(&mut folder, alloc, setup, known, &mut mark) {
             Ok((stored, list)) => {
                 note_start(news, mark, folder.has_made());
                 Ok((FileLog::new(stored), list))
             }
-            Err(fault) => Err(fault),
+            Err(fault) => Err(start_fault(folder.refusal(), fault)),
         }
     }
 }

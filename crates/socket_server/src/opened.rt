@@ -6,12 +6,13 @@ ghost use Rattle.batch_store.specs.declared.verdict.Entry.{Entry};
 ghost use Rattle.batch_store.specs.Accepted.{entries_in};
 ghost use Rattle.locked_engine.specs.Opened.{NamesEngine, opened_seats};
 ghost use Rattle.locked_engine.specs.Told.{AreShown};
+ghost use Rattle.locked_engine.specs.Versions.{version_status};
 ghost use Rattle.socket_server.specs.Faults.{IsMetServing};
 ghost use Rattle.socket_server.specs.Starts.{IsReady};
 
 use crate::fault::ServerFault;
 use crate::start::Start;
-use locked_engine::{Engine, Named, Names, Seat};
+use locked_engine::{Engine, Named, Names, Seat, Status};
 use log_desk::{Durable, Log, LogDesk};
 use std::alloc::Global;
 use std::marker::Model;
@@ -68,6 +69,13 @@ impl<N: Named, L: Log> SharedLog<N, L> {
         &self.desk
     }
 
+    /// Writes what was accepted and isn't in the log, as where a session has ended before its batches were settled. A log
+    /// that is full or has failed lacks it still.
+    pub fn write_rest<H: Ledger, R: Wait>(&mut self, rt: &R, engine: &Engine<N, H>) {
+        // No place is the last one: groups are written until the book has no more, and that is the answer.
+        let _ = self.desk.wait(rt, engine, &mut self.known, u64::MAX);
+    }
+
     /// Learns what is durable in the end, when no worker is left. The seats' first is shown what was accepted. Whether
     /// what is durable is a beginning of that, which it always is.
     pub fn learn<H: Ledger, R: Wait>(
@@ -91,6 +99,13 @@ impl<N: Named, L: Log> SharedLog<N, L> {
         }
         self.known.begins(&seat.version());
         true
+    }
+
+    /// How many batches are known as durable, and their total.
+    pub fn status(&self) -> Status
+        ensures { result ≡ version_status self.now }
+    {
+        self.known.status()
     }
 
     /// Gives the log back, once no worker uses its desk. It is always there then.

@@ -3,9 +3,10 @@ ghost use Rattle.std.specs.Prelude.{◌≡◌, ◌+◌, ◌<◌, ◌≤◌, ◌^
 ghost use Rattle.std.specs.Prelude.{is_some, true};
 ghost use Rattle.batch_store.specs.Accepted.{Accepted};
 ghost use Rattle.locked_engine.specs.Opened.{NamesEngine};
-ghost use Rattle.socket_server.specs.Ends.{EndsWith, GoesOn, IsStored};
-ghost use Rattle.socket_server.specs.Faults.{IsMet, IsMetServing};
+ghost use Rattle.socket_server.specs.Ends.{HasEnded, IsShort, stopped};
+ghost use Rattle.socket_server.specs.Faults.{IsMet, IsMetServing, MayEnd};
 ghost use Rattle.socket_server.specs.Starts.{IsReady, StartsFrom, IsLocked, IsLoadTold, IsLogTold, IsOnePath};
+ghost use Rattle.socket_server.specs.Starts.{IsReserved};
 
 use crate::bind::{Listeners, Places, bind_listeners, tell};
 use crate::fault::ServerFault;
@@ -15,6 +16,7 @@ use crate::opened::Opened;
 use crate::serving::{close_opened, serve_listeners};
 use crate::settings::{Settings, time_limit};
 use crate::start::{Start, make_start, take_locks};
+use crate::stopped::Stopped;
 use crate::unsaved::last_unsaved;
 use byte_io::Sink;
 use locked_engine::{Named, Names, Status};
@@ -50,11 +52,10 @@ fn serve_open<
     mut opened: Opened<N, H, L>,
     listeners: &Listeners,
     saver: &Saver,
-) -> Result<Status, ServerFault>
+) -> Result<Stopped, ServerFault>
     requires seats { length opened.seats.items ≡ N.seats }
-    ensures ended { IfOk result (λ s. (a : Accepted) × GoesOn N.opened a
-        × EndsWith R.saves rt.now saver.now.path N.setup a s
-        × IsStored L.was_synced (is_some opened.log) N.opened a) }
+    ensures ended { IfOk result
+        (HasEnded R.saves rt.now L.was_synced saver.now.path N.setup (is_some opened.log) N.opened) }
     ensures met { IfErr result IsMetServing }
 {
     if let Err(fault) = serve_listeners(
@@ -81,7 +82,7 @@ fn note_last_save<R: Wait + Clock>(
     listeners: &Listeners,
     saver: &Saver,
     begun: Option<Instant>,
-    outcome: &Result<Status, ServerFault>,
+    outcome: &Result<Stopped, ServerFault>,
 ) {
     if saver.is_off() {
         return;
@@ -90,7 +91,7 @@ fn note_last_save<R: Wait + Clock>(
         return;
     };
     match outcome {
-        Ok(status) => events.note_saved(rt, status.batches, begun),
+        Ok(stopped) => events.note_saved(rt, stopped.status.batches, begun),
         Err(ServerFault::Save(_) | ServerFault::LastLog(_)) => {
             let why = last_unsaved(rt, &listeners.shared.failure);
             events.note_unsaved(rt, why, begun);
@@ -111,11 +112,10 @@ fn serve_bound<
     opened: Opened<N, H, L>,
     listeners: Listeners,
     saver: &Saver,
-) -> Result<Status, ServerFault>
+) -> Result<Stopped, ServerFault>
     requires seats { length opened.seats.items ≡ N.seats }
-    ensures ended { IfOk result (λ s. (a : Accepted) × GoesOn N.opened a
-        × EndsWith R.saves rt.now saver.now.path N.setup a s
-        × IsStored L.was_synced (is_some opened.log) N.opened a) }
+    ensures ended { IfOk result
+        (HasEnded R.saves rt.now L.was_synced saver.now.path N.setup (is_some opened.log) N.opened) }
     ensures met { IfErr result IsMetServing }
 {
     let outcome = serve_open(rt, alloc, opened, &listeners, saver);
@@ -146,16 +146,15 @@ fn serve_named<
     plan: Plan,
     out: &mut W,
     written: &mut u128,
-) -> Result<Status, ServerFault>
+) -> Result<Stopped, ServerFault>
     requires failures { W.failure_count out.old + 1 < 2 ^ 64 }
     requires named { NamesEngine names N.setup N.seats N.history N.name N.parts H.name H.parts }
     requires made_from { start.plain.setup ≡ names.setup }
     requires opened { start.plain.book.state ≡ N.opened }
     requires ready { IsReady L.failed L.durable L.was_synced start.log N.opened }
     ensures failures { OnOk result (W.failure_count out.new ≡ W.failure_count out.old) }
-    ensures ended { IfOk result (λ s. (a : Accepted) × GoesOn N.opened a
-        × EndsWith R.saves rt.now plan.saver.path names.setup a s
-        × IsStored L.was_synced (is_some start.log) N.opened a) }
+    ensures ended { IfOk result
+        (HasEnded R.saves rt.now L.was_synced plan.saver.path names.setup (is_some start.log) N.opened) }
     ensures met { IfErr result IsMetServing }
 {
     let opened = match Opened::<N, H, L>::open(rt, alloc, start, names) {
@@ -173,7 +172,7 @@ fn serve_named<
     serve_bound(rt, alloc, opened, listeners, &saver)
 }
 
-// Serves by so many workers, from what a start has made.
+// Serves by so many workers, from what a start has made, and tells what is stored at the end.
 fn serve_plan<
     L: Log + Send,
     R: Threads
@@ -198,16 +197,17 @@ fn serve_plan<
     requires failures { W.failure_count out.old + 1 < 2 ^ 64 }
     requires workers { (1 ≤ workers) × (workers ≤ 32) }
     requires ready { IsReady L.failed L.durable L.was_synced start.log start.plain.book.state }
-    ensures ended { IfOk result (λ s. (a : Accepted) × GoesOn start.plain.book.state a
-        × EndsWith R.saves rt.now plan.saver.path start.plain.setup a s
-        × IsStored L.was_synced (is_some start.log) start.plain.book.state a) }
-    ensures met { IfErr result IsMetServing }
+    ensures ended { IfOk result (λ s. HasEnded R.saves rt.now L.was_synced plan.saver.path start.plain.setup
+        (is_some start.log) start.plain.book.state (stopped s 0)) }
+    ensures short { IfErr result (IsShort (HasEnded R.saves rt.now L.was_synced plan.saver.path start.plain.setup
+        (is_some start.log) start.plain.book.state)) }
+    ensures met { IfErr result (MayEnd IsMetServing) }
 {
     let Ok(names) = Names::new(rt, alloc, &start.plain, workers as usize) else {
         return Err(ServerFault::Memory);
     };
     let mut written = 0;
-    let status = serve_named::<Brand, Brand, L, R, W>(
+    let Stopped { status, missing } = serve_named::<Brand, Brand, L, R, W>(
         rt,
         alloc,
         start,
@@ -223,6 +223,9 @@ fn serve_plan<
         return Err(ServerFault::Memory);
     };
     tell(out, &mut written, line.as_str())?;
+    if missing > 0 {
+        return Err(ServerFault::NotDurable { batches: missing });
+    }
     Ok(status)
 }
 
@@ -283,6 +286,7 @@ fn plan_of(settings: Settings, failure: SaveFailure, counters: Counters) -> Plan
         log,
         must_load: _,
         must_save: _,
+        lock_wait: _,
         sessions,
         fold_above,
         idle,
@@ -308,7 +312,7 @@ fn plan_of(settings: Settings, failure: SaveFailure, counters: Counters) -> Plan
 }
 
 // Serves as the settings say, which were judged.
-#[tactic(auto, using(crate::proofs::FaultLaws::serving_met, crate::proofs::FaultLaws::serving_told, crate::proofs::FaultLaws::serving_log_told, crate::proofs::FaultLaws::lock_log_told))]
+#[tactic(auto, using(crate::proofs::FaultLaws::serving_ending, crate::proofs::FaultLaws::met_ending, crate::proofs::FaultLaws::ending_met, crate::proofs::FaultLaws::serving_told, crate::proofs::FaultLaws::ending_told, crate::proofs::FaultLaws::serving_log_told, crate::proofs::FaultLaws::ending_log_told, crate::proofs::FaultLaws::lock_log_told, crate::proofs::FaultLaws::serving_short, crate::proofs::FaultLaws::met_short))]
 fn serve_settings<
     L: Log + Send,
     R: Threads
@@ -328,11 +332,13 @@ fn serve_settings<
     requires workers { (1 ≤ settings.workers) × (settings.workers ≤ 32) }
     ensures locked { IfOk result (λ _. IsLocked R.locks rt.now settings.snapshot settings.must_save) }
     ensures log_locked { IfOk result (λ _. IsLocked R.locks rt.now settings.log true) }
-    ensures ended { IfOk result (λ s. (a : Accepted) × (b : Accepted)
+    ensures ended { IfOk result (λ s. (a : Accepted)
         × StartsFrom R.loads R.log_starts rt.now settings.snapshot settings.log settings.must_load settings.setup a
-        × GoesOn a b × EndsWith R.saves rt.now settings.snapshot settings.setup b s
-        × IsStored L.was_synced (is_some settings.log) a b) }
-    ensures met { IfErr result (λ f. IsMet settings.must_load f) }
+        × HasEnded R.saves rt.now L.was_synced settings.snapshot settings.setup (is_some settings.log) a (stopped s 0)) }
+    ensures short { IfErr result (IsShort (λ s. (a : Accepted)
+        × StartsFrom R.loads R.log_starts rt.now settings.snapshot settings.log settings.must_load settings.setup a
+        × HasEnded R.saves rt.now L.was_synced settings.snapshot settings.setup (is_some settings.log) a s)) }
+    ensures met { IfErr result (MayEnd (IsMet settings.must_load)) }
     ensures told { IfErr result (λ f. IsLoadTold R.loads R.locks rt.now settings.snapshot settings.setup f) }
     ensures log_told { IfErr result (λ f. IsLogTold R.loads R.locks R.log_starts rt.now settings.snapshot settings.log
         settings.must_load settings.setup f) }
@@ -354,12 +360,14 @@ fn serve_settings<
 ///
 /// Writes a line for each listener once it is bound, `listening tcp ADDRESS` with the port that it got or
 /// `listening unix PATH`, and at the end `stopped batches B total T`. The Unix socket's path is removed before any
-/// answer, unless another file stands there by then.
+/// answer, unless another file stands there by then. `stopped` counts what the snapshot has, or where no snapshot's path
+/// is given what is durable in the log; where accepted batches are missing there, the answer is `NotDurable`.
 ///
 /// `L` is the type of logs: `FileLog`, but in tests.
 ///
 /// The snapshot's path is locked, as `snap_file::lock` does it, from before the load until the answer. Where the lock
-/// can't be had, the server goes on without it, unless it must be seen that a snapshot can be saved.
+/// can't be had, the server goes on without it, unless it must be seen that a snapshot can be saved. While another
+/// process has a lock, as a server that was just killed may, it is waited for as the settings say.
 ///
 /// Where a log's path is given, that is locked too, and the server starts from the snapshot and what the log has behind
 /// it. A batch is answered only once a sync of the log has made it durable. Each save begins the log anew behind the
@@ -371,8 +379,8 @@ fn serve_settings<
 ///
 /// # Errors
 ///
-/// As `ServerFault` says. `BadWorkers`, `NoAddress`, `SamePath` and `BadCompactors` are judged in this order and before
-/// anything is done.
+/// As `ServerFault` says. `BadWorkers`, `NoAddress`, `BadSnapshotPath`, `BadLogPath`, `SamePath` and `BadCompactors` are
+/// judged in this order and before anything is done.
 pub fn run_server<
     L: Log + Send,
     R: Threads
@@ -393,24 +401,35 @@ pub fn run_server<
         ↔ ((1 ≤ settings.workers) × (settings.workers ≤ 32) → ⊥) }
     ensures nowhere { (result ≡ Err ServerFault.NoAddress)
         ↔ ((1 ≤ settings.workers) × (settings.workers ≤ 32) × (settings.tcp ≡ None) × (settings.unix ≡ None)) }
+    ensures snapshot_path { (result ≡ Err ServerFault.BadSnapshotPath)
+        ↔ ((1 ≤ settings.workers) × (settings.workers ≤ 32) × ((settings.tcp ≡ None) × (settings.unix ≡ None) → ⊥)
+        × IsReserved settings.snapshot) }
+    ensures log_path { (result ≡ Err ServerFault.BadLogPath)
+        ↔ ((1 ≤ settings.workers) × (settings.workers ≤ 32) × ((settings.tcp ≡ None) × (settings.unix ≡ None) → ⊥)
+        × (IsReserved settings.snapshot → ⊥) × IsReserved settings.log) }
     ensures one_path { (result ≡ Err ServerFault.SamePath)
         ↔ ((1 ≤ settings.workers) × (settings.workers ≤ 32) × ((settings.tcp ≡ None) × (settings.unix ≡ None) → ⊥)
+        × (IsReserved settings.snapshot → ⊥) × (IsReserved settings.log → ⊥)
         × IsOnePath settings.snapshot settings.log) }
     ensures compactors { (result ≡ Err ServerFault.BadCompactors)
         ↔ ((1 ≤ settings.workers) × (settings.workers ≤ 32) × ((settings.tcp ≡ None) × (settings.unix ≡ None) → ⊥)
+        × (IsReserved settings.snapshot → ⊥) × (IsReserved settings.log → ⊥)
         × (IsOnePath settings.snapshot settings.log → ⊥)
         × ((1 ≤ settings.compactors) × (settings.compactors ≤ 2) → ⊥)) }
     ensures others { IfErr result (λ f. (f ≡ ServerFault.BadWorkers) ⊎ (f ≡ ServerFault.NoAddress)
-        ⊎ (f ≡ ServerFault.SamePath) ⊎ (f ≡ ServerFault.BadCompactors) ⊎ IsMet settings.must_load f) }
+        ⊎ (f ≡ ServerFault.BadSnapshotPath) ⊎ (f ≡ ServerFault.BadLogPath) ⊎ (f ≡ ServerFault.SamePath)
+        ⊎ (f ≡ ServerFault.BadCompactors) ⊎ MayEnd (IsMet settings.must_load) f) }
     ensures told { IfErr result (λ f. IsLoadTold R.loads R.locks rt.now settings.snapshot settings.setup f) }
     ensures log_told { IfErr result (λ f. IsLogTold R.loads R.locks R.log_starts rt.now settings.snapshot settings.log
         settings.must_load settings.setup f) }
     ensures locked { IfOk result (λ _. IsLocked R.locks rt.now settings.snapshot settings.must_save) }
     ensures log_locked { IfOk result (λ _. IsLocked R.locks rt.now settings.log true) }
-    ensures ended { IfOk result (λ s. (a : Accepted) × (b : Accepted)
+    ensures ended { IfOk result (λ s. (a : Accepted)
         × StartsFrom R.loads R.log_starts rt.now settings.snapshot settings.log settings.must_load settings.setup a
-        × GoesOn a b × EndsWith R.saves rt.now settings.snapshot settings.setup b s
-        × IsStored L.was_synced (is_some settings.log) a b) }
+        × HasEnded R.saves rt.now L.was_synced settings.snapshot settings.setup (is_some settings.log) a (stopped s 0)) }
+    ensures short { IfErr result (IsShort (λ s. (a : Accepted)
+        × StartsFrom R.loads R.log_starts rt.now settings.snapshot settings.log settings.must_load settings.setup a
+        × HasEnded R.saves rt.now L.was_synced settings.snapshot settings.setup (is_some settings.log) a s)) }
 {
     settings.judge()?;
     serve_settings::<L, R, W>(rt, alloc, settings, out)

@@ -60,6 +60,7 @@ pub fn settings(rt: &impl Abort, alloc: Global, plan: &Plan) -> Settings {
         log: owned(rt, alloc, plan.log),
         must_load: plan.must_load,
         must_save: plan.must_save,
+        lock_wait: None,
         sessions: plan.sessions,
         fold_above: plan.fold_above,
         idle: None,

@@ -1,4 +1,4 @@
-use Rattle.std.proofs.Common.{◌≡◌, ◌<◌, length, arith}
+use Rattle.std.proofs.Common.{◌<◌, arith}
 use Rattle.std.specs.Prelude.{Some}
 use Rattle.log_folder.proofs.MemoryLemmas.{none_among}
 use Rattle.log_folder.proofs.memory.is_among.Goals as goal

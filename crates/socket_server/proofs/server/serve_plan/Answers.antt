@@ -1,14 +1,25 @@
-use Rattle.std.proofs.Common.{subst}
+use Rattle.std.proofs.Common.{◌≡◌, ℕ, subst, arith}
 use Rattle.std.specs.Prelude.{is_some}
 use Rattle.batch_store.specs.Setups.{Setting}
-use Rattle.batch_store.specs.Accepted.{Accepted}
-use Rattle.socket_server.specs.Ends.{EndsWith, GoesOn, IsStored}
+use Rattle.socket_server.specs.Ends.{HasEnded, stopped}
 use Rattle.socket_server.proofs.server.serve_plan.Goals as goal
 
+-- some batches are missing
+pub returns-then-missing-gt0-clause-short : goal.returns-then-missing-gt0-clause-short
+returns-then-missing-gt0-clause-short g c = (
+  c.in_ok-status.field-0.status,
+  omega (arith, c.if-missing-gt0.true),
+  subst (λ (v : Setting). HasEnded g.R.Disk.saves c.args.rt.now g.L.Log.was_synced c.args.plan.saver.path v
+      (is_some c.args.start.log) c.args.start.plain.book.state c.in_ok-status.field-0) c.in-Ok.ensures.setup
+      c.in_ok-status.ensures.ended,
+)
+
+-- none is
 pub returns-clause-ended : goal.returns-clause-ended
 returns-clause-ended g c =
-    let opened = c.args.start.plain.book.state in
-    subst (λ (v : Setting). (x : Accepted) × GoesOn opened x
-    × EndsWith g.R.Disk.saves c.args.rt.now c.args.plan.saver.path v x c.in_ok-status.status
-    × IsStored g.L.Log.was_synced (is_some c.args.start.log) opened x) c.in-Ok.ensures.setup
-    c.in_ok-status.ensures.ended
+    let end = c.in_ok-status.field-0 in
+    let none : end.missing ≡ 0 = omega (arith, c.if-missing-gt0.false) in
+    subst (λ (n : ℕ). HasEnded g.R.Disk.saves c.args.rt.now g.L.Log.was_synced c.args.plan.saver.path
+    c.args.start.plain.setup (is_some c.args.start.log) c.args.start.plain.book.state (stopped end.status n)) none
+    (subst (λ (v : Setting). HasEnded g.R.Disk.saves c.args.rt.now g.L.Log.was_synced c.args.plan.saver.path v
+    (is_some c.args.start.log) c.args.start.plain.book.state end) c.in-Ok.ensures.setup c.in_ok-status.ensures.ended)

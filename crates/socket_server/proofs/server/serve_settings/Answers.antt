@@ -1,9 +1,11 @@
 use Rattle.std.proofs.Common.{subst}
-use Rattle.std.specs.Prelude.{Bool, IfOk, Option, String, is_some}
+use Rattle.std.specs.Prelude.{Bool, IfOk, IfErr, Option, String, is_some}
 use Rattle.std.proofs.lemmas.Result.{IfOk-weaker}
 use Rattle.batch_store.specs.Setups.{Setting}
 use Rattle.batch_store.specs.Accepted.{Accepted}
-use Rattle.socket_server.specs.Ends.{EndsWith, GoesOn, IsStored}
+use Rattle.socket_server.specs.Ends.{HasEnded, IsShort, stopped}
+use Rattle.socket_server.specs.Starts.{StartsFrom}
+use Rattle.socket_server.proofs.FaultLaws.{short_weaker}
 use Rattle.socket_server.proofs.server.serve_settings.Goals as goal
 
 -- the engine that was closed was opened with what the start has made
@@ -11,14 +13,38 @@ pub returns-clause-ended : goal.returns-clause-ended
 returns-clause-ended g c =
     let a = c.in_ok-start.start.plain.book.state in
     let told = c.in_ok-start.ensures in
-    IfOk-weaker c.serve_plan.result _ _ (λ s h. (a, h.0, told.start, h.1, h.2, h.3))
-    (subst (λ (b : Bool). IfOk c.serve_plan.result (λ s. (x : Accepted) × GoesOn a x
-    × EndsWith g.R.Disk.saves c.args.rt.now c.args.settings.snapshot c.args.settings.setup x s
-    × IsStored g.L.Log.was_synced b a x)) told.has_log
-    (subst (λ (p : Option (String _)). IfOk c.serve_plan.result (λ s. (x : Accepted) × GoesOn a x
-    × EndsWith g.R.Disk.saves c.args.rt.now p c.args.settings.setup x s
-    × IsStored g.L.Log.was_synced (is_some c.in_ok-start.start.log) a x)) c.plan_of-plan.ensures.path
-    (subst (λ (v : Setting). IfOk c.serve_plan.result (λ s. (x : Accepted) × GoesOn a x
-    × EndsWith g.R.Disk.saves c.args.rt.now c.plan_of-plan.result.saver.path v x s
-    × IsStored g.L.Log.was_synced (is_some c.in_ok-start.start.log) a x)) told.setup
+    let saves = g.R.Disk.saves in
+    let synced = g.L.Log.was_synced in
+    let h = c.args.rt.now in
+    let log = is_some c.in_ok-start.start.log in
+    IfOk-weaker c.serve_plan.result _ _ (λ s e. (a, told.start, e))
+    (subst (λ (b : Bool). IfOk c.serve_plan.result
+    (λ s. HasEnded saves h synced c.args.settings.snapshot c.args.settings.setup b a (stopped s 0))) told.has_log
+    (subst (λ (p : Option (String _)). IfOk c.serve_plan.result
+    (λ s. HasEnded saves h synced p c.args.settings.setup log a (stopped s 0))) c.plan_of-plan.ensures.path
+    (subst (λ (v : Setting). IfOk c.serve_plan.result
+    (λ s. HasEnded saves h synced c.plan_of-plan.result.saver.path v log a (stopped s 0))) told.setup
     c.serve_plan.ensures.ended)))
+
+-- and so where batches are missing
+pub returns-clause-short : goal.returns-clause-short
+returns-clause-short g c =
+    let a = c.in_ok-start.start.plain.book.state in
+    let told = c.in_ok-start.ensures in
+    let saves = g.R.Disk.saves in
+    let synced = g.L.Log.was_synced in
+    let h = c.args.rt.now in
+    let log = is_some c.in_ok-start.start.log in
+    short_weaker c.serve_plan.result
+    (HasEnded saves h synced c.args.settings.snapshot c.args.settings.setup (is_some c.args.settings.log) a)
+    (λ s. (x : Accepted) × StartsFrom g.R.Host.loads g.R.LogHost.log_starts h c.args.settings.snapshot
+    c.args.settings.log c.args.settings.must_load c.args.settings.setup x
+    × HasEnded saves h synced c.args.settings.snapshot c.args.settings.setup (is_some c.args.settings.log) x s)
+    (λ s e. (a, told.start, e))
+    (subst (λ (b : Bool). IfErr c.serve_plan.result
+    (IsShort (HasEnded saves h synced c.args.settings.snapshot c.args.settings.setup b a))) told.has_log
+    (subst (λ (p : Option (String _)). IfErr c.serve_plan.result
+    (IsShort (HasEnded saves h synced p c.args.settings.setup log a))) c.plan_of-plan.ensures.path
+    (subst (λ (v : Setting). IfErr c.serve_plan.result
+    (IsShort (HasEnded saves h synced c.plan_of-plan.result.saver.path v log a))) told.setup
+    c.serve_plan.ensures.short)))

@@ -14,8 +14,8 @@ returns-in-Ok-clause-ended g c =
       record { entries = told.opened; past = told.past },
       (
         subst (λ (v : Setting). AreAccepted v a) told.setup told.whole.keeps.accepted,
-        c.status.ensures,
         subst (λ (v : Setting). IsSaved g.R.Disk.saves c.args.rt.now c.args.saver.now.path v a) told.setup
             c.in_ok-save_plain-in-Ok.ensures.saved,
       ),
+      c.status.ensures,
     )
