@@ -1,7 +1,7 @@
 //! A disk that doesn't tell what it holds, as a real one: what the contracts say of such a one is when it failed, and
 //! the rest is for the tests.
 ghost use Rattle.std.specs.Prelude.{⊤};
-ghost use Rattle.log_start_tests.specs.Untold.{no_bytes};
+ghost use Rattle.log_disk_tests.specs.Untold.{no_bytes};
 
 use byte_io::DeviceFault;
 use log_disk::{LogDisk, MemoryDisk};
