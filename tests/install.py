@@ -11,6 +11,7 @@ Python's own library.
 """
 import os
 import re
+import resource
 import shutil
 import signal
 import socket
@@ -413,6 +414,59 @@ def a_server_that_loads_is_ended_too(prefix):
     os.remove(path)
 
 
+# A program in the place of hhm: it refuses a Save and the first two Stops for want of memory, and ends at the third.
+SHORT_OF_MEMORY = f"""#!{sys.executable}
+import socket, struct, sys
+path = next(word.removeprefix("--unix=") for word in sys.argv if word.startswith("--unix="))
+with socket.socket(socket.AF_UNIX) as listener:
+    listener.bind(path)
+    listener.listen()
+    print("listening unix", path, flush=True)
+    stops = 0
+    while stops < 3:
+        link = listener.accept()[0]
+        with link:
+            stops += link.recv(5)[4] == 7
+            link.sendall(b"\\0\\0\\0\\0\\x87" if stops == 3 else struct.pack(">IBHQ", 10, 255, 1, 0))
+print("stopped batches 0 total 0")
+"""
+
+
+def a_refused_stop_is_asked_for_again(prefix):
+    """A server without memory refuses a Stop: it is asked for until it is answered, and so is said."""
+    with tempfile.TemporaryDirectory(dir=server.FOLDER) as folder:
+        shutil.copy(f"{prefix}/bin/hhm-run", folder)
+        with open(os.path.join(folder, "hhm"), "w", encoding="utf-8") as file:
+            file.write(SHORT_OF_MEMORY)
+        os.chmod(os.path.join(folder, "hhm"), 0o755)
+        words = [os.path.join(folder, "hhm-run"), f"--unix={os.path.join(folder, 'socket')}", "--snapshot=x"]
+        process = subprocess.Popen(words, stdout=subprocess.PIPE, stderr=subprocess.PIPE, text=True,
+                                   preexec_fn=heed_signals)
+        process.stdout.readline()
+        process.terminate()
+        output, error = process.communicate(timeout=WAIT)
+        check("a refused stop: the output", output, "stopped batches 0 total 0\n")
+        check("a refused stop: what it says", error, (
+            f"{ENDS}hhm-run: the save was refused; the server tries once more at its end\n"
+            "hhm-run: the stop was refused; it is asked for again each second\n"))
+        check("a refused stop: status", process.returncode, 0)
+
+
+def a_limit_of_a_file_refuses_puts(prefix):
+    """A limit of a file's size (ulimit -f) refuses puts by LogFull, and doesn't end the server."""
+    log = os.path.join(server.FOLDER, "limited.hhmlog")
+    with Served(prefix, ["--log", log]).listens() as at:
+        resource.prlimit(server_of(at.process.pid), resource.RLIMIT_FSIZE, (3 * 4096, 3 * 4096))
+        with at.link() as link:
+            at.puts(link, 1, 1, 0, 1)
+            at.puts(link, 2, 1, 1, 2)
+            link.sendall(server.put_frame(3, 1, server.text(1)))
+            check("a limited file: the third", link.recv(64), server.refused(34))
+        at.is_told_to_end()
+        at.ends("a limited file: the end", "stopped batches 2 total 2\n", "", 0)
+    os.remove(log)
+
+
 def a_log_of_an_earlier_installation_goes_on(prefix):
     """A unit that named sum.log is installed anew and names sum.hhmlog: what was accepted after the last save is there."""
     snap, earlier, log = (os.path.join(server.FOLDER, f"before.{it}") for it in ("snap", "log", "hhmlog"))
@@ -502,6 +556,8 @@ def main():
         a_worker_that_is_held_holds_the_save(prefix)
         a_refused_save_is_told(prefix)
         a_server_that_loads_is_ended_too(prefix)
+        a_refused_stop_is_asked_for_again(prefix)
+        a_limit_of_a_file_refuses_puts(prefix)
         a_log_of_an_earlier_installation_goes_on(prefix)
         statuses_are_those_of_the_program(prefix)
     the_repository_is_in_order()
