@@ -357,9 +357,9 @@ class Hours:
                 hhm.put(1, cells)
                 if saves:
                     hhm.save()
-        for kind in ("snap", "log"):
+        for kind, name in (("snap", "sum.snap"), ("log", "sum.hhmlog")):
             if os.path.exists(f"{host.base}.{kind}"):
-                os.rename(f"{host.base}.{kind}", self.path(hour, f"sum.{kind}"))
+                os.rename(f"{host.base}.{kind}", self.path(hour, name))
 
     def call(self, now, **more):
         """The status of a call at a time in seconds, and what it writes to standard error."""
