@@ -556,6 +556,26 @@ def a_log_that_is_taken_away_is_missed():
         check(f"{name}: a start", started("--log", path, "--snapshot", snaps), stopped(3, 10))
 
 
+def a_client_that_goes_leaves_nothing_unwritten():
+    """A client that sends many puts and is gone before a reply: what was accepted is in the log at the end, all of it."""
+    words = ["--rows", "3", "--cols", "3", "--shards", "2"]
+    for turn in range(5):
+        path = in_folder(f"gone {turn}.log")
+        with Server([*words, "--log", path], tcp=False) as at:
+            for client in range(4):
+                link = at.link()
+                link.setsockopt(socket.SOL_SOCKET, socket.SO_LINGER, struct.pack("ii", 1, 0))
+                link.sendall(b"".join(put_frame(client, n, text(1)) for n in range(200)))
+                link.shutdown(socket.SHUT_RD)
+                link.close()
+            with at.link() as link:
+                asked(link, STOP, 5)
+            output, error = at.process.communicate(timeout=WAIT)
+        check(f"gone {turn}: status and errors", (at.process.returncode, error), (0, ""))
+        told = started("--log", path, setup=words)
+        check(f"gone {turn}: {output.strip()}", told, (output, "", 0))
+
+
 def what_is_no_file_is_told():
     """A folder, a FIFO, a socket, a device, a link to one, and folders that aren't there: nothing waits or is replaced.
     """
@@ -689,6 +709,7 @@ def all_are_tried():
         a_second_server_is_told,
         a_log_has_one_server_under_all_its_names,
         a_log_that_is_taken_away_is_missed,
+        a_client_that_goes_leaves_nothing_unwritten,
         what_is_no_file_is_told,
         links_are_followed_once,
         rights_that_lack_are_told,
