@@ -79,6 +79,8 @@ fn run(rt: &HostRuntime, alloc: Global) -> Result<(), Stop> {
     let third = make_with_head(&mut folder, &[67; 4096])?;
     give_name(&mut folder, &third)?;
     show_both(rt, "named anew");
+    // As long as it is open its file is locked.
+    drop(third);
     match folder.find()? {
         Some(found) => {
             let length = found.length;
