@@ -175,8 +175,9 @@ def backups_of_few_batches():
     with files.serve() as at:
         with at.client(1) as hhm:
             hhm.put(1, [(0, 0, 5)])
-            check("no snapshot", counted(files.backup()[0])[1:], (1, 5))
-            check("no snapshot: what is copied", os.listdir(os.path.join(files.backups, files.kept()[0])), ["sum.hhmlog"])
+            check("no save yet", counted(files.backup()[0])[1:], (1, 5))
+            copied = sorted(os.listdir(os.path.join(files.backups, files.kept()[0])))
+            check("no save yet: what is copied", copied, ["sum.hhmlog", "sum.snap"])
             hhm.save()
             hhm.put(2, [(1, 0, 7)])
         os.chmod(files.snap, 0o640)

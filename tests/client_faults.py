@@ -204,7 +204,8 @@ def a_book_that_went_back_is_told(name, command):
         os.remove(path)
         with Server(words) as at:
             told = went_back("12 batches with total 820", "0 with total 0")
-            check(f"{name}: back, before a question", driver.ask("cell", 0, 0), told)
+            # (behind it the identities of both books, where the program tells them)
+            check(f"{name}: back, before a question", driver.ask("cell", 0, 0).split(";")[0], told)
             check(f"{name}: it is told once", driver.ask("cell", 0, 0), "none")
             killed(at)
 
@@ -362,7 +363,7 @@ def silence_ends(name, command):
     """A server that never answers, with signals all the time and without; and one that never accepts."""
     for word in ["put 1 5", "save"]:
         for signals in [False, True]:
-            with Liar(None) as liar, Driver(command, liar.path, timeout=300, attempts=2) as driver:
+            with Liar(None, to_puts=True) as liar, Driver(command, liar.path, timeout=300, attempts=2) as driver:
                 if signals:
                     driver.ask("alarms")
                 begin = time.monotonic()
@@ -450,12 +451,15 @@ def a_saved_batch_that_is_gone_is_told():
             with at.client(8) as other:
                 for number in range(10):
                     other.put(number, [(0, 1, 100)])
+            seen = None
             try:
                 hhm.put(4, [(4, 0, 5)])
                 check("gone", "an answer", "a fault")
             except BookWentBack as fault:
                 check("gone", (fault.had, fault.has, fault.refused), ((3, 15), (10, 1000), []))
-            check("gone: what is kept isn't", (hhm.cell(3, 0), hhm.cell(2, 0), hhm.cell(1, 0)), (5, 5, None))
+                # (the batch of the save is put again to find out, but where the identity says it)
+                seen = 5 if fault.has_id is None else None
+            check("gone: what is kept isn't", (hhm.cell(3, 0), hhm.cell(2, 0), hhm.cell(1, 0)), (5, seen, None))
             killed(at)
 
 
@@ -466,7 +470,8 @@ def a_bound_of_what_is_kept_saves():
             check("a bound: too large", fault_of(lambda: hhm.put(0, [(0, 0, 1)] * 41)), "ValueError")
             check("a bound: nothing was sent", hhm.status(), (0, 0))
             hhm.put(1, [(0, 0, 1)] * 20)
-            check("a bound: no save yet", os.path.exists(path), False)
+            # (a server begins with a snapshot of nothing, which keeps its book's identity)
+            check("a bound: no save yet", checked(path), "batches 0 total 0")
             hhm.put(2, [(0, 0, 1)] * 20)
             check("a bound: saved", checked(path), "batches 1 total 20")
             replies = list(hhm.put_all(((n, [(0, 0, 1)] * 20) for n in range(3, 13)), depth=4))
@@ -563,7 +568,10 @@ def a_stop_saves_first():
         check("stop", asked(*where, "stop"), ("stopping\n", "", 0))
         at.ends("stop", 1, 5)
     check("stop: saved", checked(path), "batches 1 total 5")
-    with Server([*WIDE, "--snapshot", os.path.join(server.FOLDER, "no folder", "snap")]) as at:
+    folder = at_path("no folder")
+    os.mkdir(folder)
+    with Server([*WIDE, "--snapshot", os.path.join(folder, "snap")]) as at:
+        shutil.rmtree(folder)
         check("stop: discards", asked("--unix", at.path, "stop", "--discard"), ("stopping\n", "", 0))
         output, error = at.process.communicate(timeout=WAIT)
         check("stop: discarded", (output, error, at.process.returncode), ("", "hhm: file: Create\n", 4))

@@ -31,6 +31,7 @@ HERE = os.path.dirname(os.path.abspath(__file__))
 CLIENTS = os.path.join(HERE, "..", "clients")
 import client_faults  # noqa: E402 (server.py has put the client's folder on the path)
 import hhm_client  # noqa: E402
+import identities  # noqa: E402
 from hhm_client import MAX_CELLS, Arrays, BadReply, Client, Status, cells_of, where_of  # noqa: E402
 from peers import WAIT, Liar, Proxy, fault_of, run, started, until  # noqa: E402
 
@@ -244,8 +245,8 @@ def replies_are_lost(unix):
     with contextlib.suppress(FileNotFoundError):
         os.remove(snapshot)
     with Server(["--rows", "3", "--cols", "3", "--snapshot", snapshot]) as at:
-        # (after the first put each connection begins with a status and a repeat)
-        with Proxy(at, unix, [0, 0, 1, 3, 2, 0, 4]) as proxy:
+        # (a connection that puts begins with a Stats; after the first put a status and a repeat follow it)
+        with Proxy(at, unix, [0, 1, 1, 3, 2, 1, 4]) as proxy:
             with Client(client=7, timeout=WAIT, attempts=4, pause=0.001, **proxy.where) as hhm:
                 check("lost: a put", hhm.put(1, arrays([(0, 0, 5)])), (0, 5))
                 check("lost: a text", hhm.put_text(2, text(3)), (1, 8))
@@ -253,7 +254,7 @@ def replies_are_lost(unix):
                 wanted = [(n, (n - 1, 8 + sum(range(3, n + 1)))) for n in range(3, 23)]
                 check("lost: many", list(numbers), wanted)
             check("lost: how often", proxy.how_often, 7)
-        with Proxy(at, unix, [0, None] * 8) as proxy:
+        with Proxy(at, unix, [0, None] * 7 + [1, None]) as proxy:
             for name, ask, wanted in [
                 ("a cell", lambda hhm: hhm.cell(0, 0), 8), ("no cell", lambda hhm: hhm.cell(2, 2), None),
                 ("a row", lambda hhm: hhm.row(1), (1, 250)), ("status", lambda hhm: hhm.status(), (22, 258)),
@@ -264,7 +265,7 @@ def replies_are_lost(unix):
                 with Client(client=7, timeout=WAIT, attempts=4, pause=0.001, **proxy.where) as hhm:
                     check(f"lost: {name}", ask(hhm), wanted)
             check("lost: how often each", proxy.how_often, 8)
-        with Proxy(at, unix, [0] * 100) as proxy:
+        with Proxy(at, unix, [1] * 100) as proxy:
             with Client(client=7, timeout=WAIT, attempts=3, pause=0.001, **proxy.where) as hhm:
                 check("lost: given up", fault_of(lambda: hhm.put(90, [(2, 2, 1)])), "ConnectionError")
             check("lost: as often as said", proxy.how_often, 3)
@@ -287,11 +288,11 @@ LIES = [
 def lies_are_told(examples):
     """What is no reply is told as such, and isn't asked again."""
     for lie in LIES:
-        with Liar(lie) as liar, Client(unix=liar.path, client=7, timeout=WAIT) as hhm:
+        with Liar(lie, to_puts=True) as liar, Client(unix=liar.path, client=7, timeout=WAIT) as hhm:
             check(f"a lie: {lie.hex()}", fault_of(lambda: hhm.put(1, [(0, 0, 5)])), BadReply.__name__)
             check("a lie, once", liar.count, 1)
         for name, program in examples.items():
-            with Liar(lie) as liar:
+            with Liar(lie, to_puts=True) as liar:
                 ran = run([program, "--unix", liar.path])
                 check(f"a lie to {name}: {lie.hex()}", ran, ("", "what came is no reply to what was asked\n", 4))
                 check(f"a lie to {name}, once", liar.count, 1)
@@ -301,10 +302,10 @@ def a_log_is_told_of(examples):
     """What a server with a log answers: a put that has no room, one whose sync failed, and how much is durable."""
     for code, told in [(34, "LogFull"), (35, "LogFailed")]:
         refusal = struct.pack(">IBHQ", 10, 0xFF, code, 0)
-        with Liar(refusal) as liar, Client(unix=liar.path, client=7, timeout=WAIT) as hhm:
+        with Liar(refusal, to_puts=True) as liar, Client(unix=liar.path, client=7, timeout=WAIT) as hhm:
             check(f"{told}: a put", fault_of(lambda: hhm.put(1, [(0, 0, 5)])), told)
         for name, program in examples.items():
-            with Liar(refusal) as liar:
+            with Liar(refusal, to_puts=True) as liar:
                 check(f"{told}: {name}", run([program, "--unix", liar.path])[1:], (f"refused: {told}\n", 1))
     with Liar(struct.pack(">IBQQ", 16, 0x84, 3, 12)) as liar:
         with Client(unix=liar.path, timeout=WAIT) as hhm:
@@ -356,8 +357,8 @@ def examples_ask_all(unix, examples):
     """Each example's calls, on a new server each, with each reply and with some of them lost."""
     path = os.path.join(server.FOLDER, "example.snap")
     for name, program in examples.items():
-        # (after the first put each connection begins with a status and a repeat)
-        for lost in [[], [0, 0, 1, 0, 2, 1, 3, 0, 2, 3, 1, 2, 3, 2]]:
+        # (a connection that puts begins with a Stats; after the first put a status and a repeat follow it)
+        for lost in [[], [1, 0, 2, 1, 3, 2, 4, 0, 3, 4, 2, 3, 4, 3]]:
             with contextlib.suppress(FileNotFoundError):
                 os.remove(path)
             with Server([*SMALL, "--snapshot", path]) as at, Proxy(at, unix, lost) as proxy:
@@ -568,7 +569,9 @@ def main():
         a_log_is_followed()
         another_log_is_refused()
         python = {"Python": [sys.executable, os.path.join(HERE, "drivers", "driver.py")]}
-        client_faults.all_are_tried({**python, **{name: [path] for name, path in drivers.items()}})
+        commands = {**python, **{name: [path] for name, path in drivers.items()}}
+        client_faults.all_are_tried(commands)
+        identities.all_are_tried(commands)
     if missing:
         print(f"{missing} not run")
     print(f"{server.passed} passed, {server.failed} failed")

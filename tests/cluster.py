@@ -350,16 +350,17 @@ class Hours:
         return os.path.join(self.state, *names)
 
     def fill(self, hour, cells, saves, logged):
-        """An hour whose server put a batch, saved or not, and was killed."""
+        """An hour whose server took a batch and was killed. It saved before or behind it; else it has no snapshot."""
         os.makedirs(self.path(hour))
         with Hosts(f"hour {hour}", 1, logged=logged) as (host,):
             with host.client(1) as hhm:
-                hhm.put(1, cells)
-                if saves:
+                if saves == "before":
                     hhm.save()
-        for kind, name in (("snap", "sum.snap"), ("log", "sum.hhmlog")):
-            if os.path.exists(f"{host.base}.{kind}"):
-                os.rename(f"{host.base}.{kind}", self.path(hour, name))
+                hhm.put(1, cells)
+                if saves == "behind":
+                    hhm.save()
+        for kind, name in [("snap", "sum.snap")] * bool(saves) + [("log", "sum.hhmlog")] * logged:
+            os.rename(f"{host.base}.{kind}", self.path(hour, name))
 
     def call(self, now, **more):
         """The status of a call at a time in seconds, and what it writes to standard error."""
@@ -373,13 +374,8 @@ def hours_are_summed():
     """What examples/systemd makes of the hours of a day, when it is over: of one without a log, one that saved, one
     whose batches are in the log alone, beside a snapshot and without one. Each server that is needed is stopped again."""
     hours, lists = Hours("hours"), [batch(1, number) for number in range(4)]
-    for place, cells in enumerate(lists):
-        hours.fill(f"202611270{place}", cells, saves=place < 2, logged=place > 0)
-    # (an older snapshot)
-    with Hosts("hour empty", 1) as (host,):
-        with host.client() as hhm:
-            hhm.save()
-    os.rename(f"{host.base}.snap", hours.path("2026112702", "sum.snap"))
+    for place, saves in enumerate(["behind", "behind", "before", None]):
+        hours.fill(f"202611270{place}", lists[place], saves, logged=place > 0)
     # 2026-11-28, at 01:55, 02:55 and 03:55: the day's last hour is ended at 02:55, and the next call sums it.
     for now, is_summed in [(1795830900, False), (1795834500, False), (1795838100, True)]:
         check("hours: status", hours.call(now), (0, ""))
@@ -397,7 +393,7 @@ def an_hour_that_cant_be_read_is_named():
     """Without one of its hours a day isn't summed: a log is damaged, and a server can't save."""
     hours, cells = Hours("bad hours"), batch(1, 1)
     for place in range(2):
-        hours.fill(f"202611270{place}", cells, saves=False, logged=True)
+        hours.fill(f"202611270{place}", cells, saves="before", logged=True)
     log = hours.path("2026112701", "sum.hhmlog")
     with open(log, "rb") as file:
         text = file.read()

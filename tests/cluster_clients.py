@@ -22,6 +22,7 @@ HERE = os.path.dirname(os.path.abspath(__file__))
 import hhm_cluster  # noqa: E402 (server.py has put the client's folder on the path)
 from hhm_cluster import Cluster, Undecided  # noqa: E402
 from hosts import SIZE, Hosts, added, batch, sum_in  # noqa: E402
+from identities import NO_MEMORY, ONE, TWO, UNKNOWN, told_by  # noqa: E402
 from peers import Driver, Liar  # noqa: E402
 from stand_in import StandIn  # noqa: E402
 
@@ -186,6 +187,29 @@ def servers_begin_again(language, command, by):
             check(f"{name}: the sum", sum_in(hhm.export()), added(*cells.values()))
 
 
+def another_book_is_told(language, command, by):
+    """The second of two servers begins again with all of its batches, and tells of its book what it did, or else."""
+    word = {"Rust": "index", "C": "put"}[language]
+    for first, second, wanted in [
+        (ONE, TWO, "WentBack [1]"), (ONE, ONE, word), (None, None, word), (UNKNOWN, UNKNOWN, word),
+        (ONE, UNKNOWN, word), (UNKNOWN, TWO, word), (NO_MEMORY, NO_MEMORY, word),
+    ]:
+        name, size = f"{language} {by} {first} {second}", (SIZE[0], SIZE[0])
+        with contextlib.ExitStack() as stack:
+            servers = [stack.enter_context(StandIn(size, told_by(first), name=f"at {place}")) for place in range(2)]
+            for at in servers:
+                at.tcp = at.path
+            driver = stack.enter_context(Asked(command, servers, by))
+            for number in range(3):
+                driver.put(number, batch(7, number, 50))
+            servers[1].begin_again(told_by(second), 1000)
+            found = driver.put(3, batch(7, 3, 50))
+            check(f"{name}: another book", found if found.startswith("WentBack") else found.split()[0], wanted)
+            check(f"{name}: on", driver.put(3, batch(7, 3, 50)).split()[0], word)
+            total = sum(count for number in range(4) for *_, count in batch(7, number, 50))
+            check(f"{name}: status", driver.ask("status"), f"batches 4 total {total}")
+
+
 def other_maps_are_told(language, command, by):
     name = f"{language} {by}"
     with Hosts(f"other {name}", 3) as hosts:
@@ -263,6 +287,7 @@ def all_are_tried():
         for by in ("source", "rows"):
             both_cut_alike(language, command, by)
             servers_begin_again(language, command, by)
+            another_book_is_told(language, command, by)
             other_maps_are_told(language, command, by)
             books_are_full(language, command, by)
         halves_are_told(language, command)

@@ -153,6 +153,8 @@ def names_that_are_written():
             hhm.save()
             with contextlib.suppress(Refused):
                 hhm.put(1, [(0, 0, 6)])
+            # (a reply may come before it is counted, but the next one doesn't)
+            hhm.status()
             looker = Looker(Watched(Client(unix=at.path)), 1.0)
             looker.look()
             looker.seen.hhm.close()

@@ -143,16 +143,23 @@ def drawn_cells(pair, other):
 
 def drawn_text(draw, cells):
     """A text of some cells, and the code and the detail of its refusal where it has a fault."""
-    rows, count, more, code = ROWS, len(cells), "", None
+    rows, cols, count, more, code = ROWS, COLS, len(cells), "", None
+    if draw.randrange(3) == 0:
+        # no more rows and columns than the cells need
+        rows, cols = (max((cell[at] + 1 for cell in cells), default=1) for at in (0, 1))
     fault = draw.randrange(12)
     if fault == 0:
-        rows, code = ROWS + 1, (20, 0)
+        rows, cols = draw.choice([(ROWS + 1, cols), (rows, COLS + 1)])
+        code = (20, 0)
     elif fault == 1:
         more, code = "1 1 1\n", (115, len(cells) + 3)
     elif fault == 2:
         count, code = len(cells) + 1, (114, len(cells) + 3)
+    elif fault == 3 and rows > 1 and rows in (used := [cell[0] + 1 for cell in cells]):
+        # a row less than the cells need, which the server has
+        rows, code = rows - 1, (113, 3 + used.index(rows))
     lines = "".join(f"{row + 1} {col + 1} {number}\n" for row, col, number in cells)
-    return BANNER + f"{rows} {COLS} {count}\n{lines}{more}".encode(), code
+    return BANNER + f"{rows} {cols} {count}\n{lines}{more}".encode(), code
 
 
 def drawn_put(draw, model):

@@ -23,6 +23,8 @@ import time
 import program
 import server
 from server import SMALL, check
+from server_faults import in_snap
+from snap_bytes import OWNED
 
 TOP = os.path.dirname(server.HERE)
 # The most seconds that an end after a signal takes, or a run that serves nobody, and those of an install.
@@ -285,8 +287,12 @@ class Served:
 
 
 def saved(count):
-    """The snapshot of one batch of client 7 with one cell of this count."""
-    return program.snapshot([(7, 1, [(0, 0, count)])], count, past=program.NONE)
+    """The snapshot of one batch of client 7 with one cell of this count, by the book of the examples."""
+    return program.snapshot([(7, 1, [(0, 0, count)])], count, past=program.NONE, origin=OWNED)
+
+
+# What a server saves at its first start.
+EMPTY = program.snapshot([], 0, past=program.NONE, origin=OWNED)
 
 
 def each_signal_saves_and_stops(prefix):
@@ -301,7 +307,7 @@ def each_signal_saves_and_stops(prefix):
                 kill(at.process.pid, number)
                 at.ends(name, "stopped batches 1 total 5\n", ENDS, 0)
                 check(f"{name}: the path is gone", os.path.lexists(at.path), False)
-            check(f"{name}: the snapshot", content(path), saved(5))
+            check(f"{name}: the snapshot", in_snap(path), saved(5))
             os.remove(path)
     with Served(prefix, []).listens() as at:
         at.process.terminate()
@@ -332,13 +338,13 @@ def a_second_signal_kills(prefix):
         with at.link() as link:
             at.puts(link, 7, 5, 0, 5)
             at.is_told_to_end()
-            waits_for(lambda: os.path.exists(path))
+            waits_for(lambda: in_snap(path) != EMPTY)
             at.puts(link, 8, 3, 1, 8)
             time.sleep(1.1)
             check("a session holds the end", at.process.poll(), None)
             at.process.terminate()
             at.ends("a second signal", "", KILLED, 128 + signal.SIGKILL)
-    check("a second signal: the snapshot", content(path), saved(5))
+    check("a second signal: the snapshot", in_snap(path), saved(5))
 
 
 def signals_at_once_are_one(prefix):
@@ -353,7 +359,7 @@ def signals_at_once_are_one(prefix):
                     time.sleep(0.1)
                 check(f"{several}: a session holds the end", at.process.poll(), None)
             at.ends(f"{several}", "stopped batches 1 total 5\n", ENDS, 0)
-        check(f"{several}: the snapshot", content(path), saved(5))
+        check(f"{several}: the snapshot", in_snap(path), saved(5))
         os.remove(path)
 
 
@@ -373,13 +379,13 @@ def a_worker_that_is_held_holds_the_save(prefix):
             time.sleep(1.1)
             at.process.send_signal(signal.SIGINT)
             at.ends("a held worker", "", KILLED, 128 + signal.SIGKILL)
-    check("a held worker: nothing is saved", os.path.exists(path), False)
+    check("a held worker: nothing is saved", in_snap(path), EMPTY)
     with Served(prefix, ["--snapshot", path, "--workers", "1", "--idle", "1"]).listens() as at:
         with at.link() as link:
             at.puts(link, 7, 5, 0, 5)
             at.process.terminate()
             at.ends("a held worker, --idle", "stopped batches 1 total 5\n", ENDS, 0)
-    check("a held worker, --idle: the snapshot", content(path), saved(5))
+    check("a held worker, --idle: the snapshot", in_snap(path), saved(5))
 
 
 def a_refused_save_is_told(prefix):
@@ -390,14 +396,14 @@ def a_refused_save_is_told(prefix):
         at.process.terminate()
         said = f"{ENDS}hhm-run: the save was refused; the server tries once more at its end\nhhm: file: Create\n"
         at.ends("a refused save", "", said, 4)
-    check("a refused save: no file", os.path.exists(path), False)
+    check("a refused save: nothing is saved", in_snap(path), EMPTY)
 
 
 def a_server_that_loads_is_ended_too(prefix):
     """A signal before it listens: it is asked as soon as it does, and what it has loaded is saved."""
     path, count = os.path.join(server.FOLDER, "many.snap"), 100_000
     batches = [(7, n, [(0, 0, 1)]) for n in range(count)]
-    held = program.snapshot(batches, count, most=10**6, limit=10**6, past=program.NONE)
+    held = program.snapshot(batches, count, most=10**6, limit=10**6, past=program.NONE, origin=OWNED)
     with open(path, "wb") as file:
         file.write(held)
     words = ["--max-batches", "1000000", "--limit", "1000000", "--snapshot", path]

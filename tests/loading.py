@@ -8,7 +8,9 @@ that fails and at the end `N passed, M failed`; the status is 1 where one fails.
 library.
 """
 import collections
+import contextlib
 import gzip
+import io
 import ipaddress
 import os
 import pty
@@ -23,8 +25,13 @@ from server import Server, check
 
 HERE = os.path.dirname(os.path.abspath(__file__))
 HHMC = os.path.join(HERE, "..", "clients", "python", "hhm_client.py")
-from hhm_client import STATUS, Client, cells_of  # noqa: E402 (server.py has put the client's folder on the path)
+import hhm_load  # noqa: E402 (server.py has put the client's folder on the path)
+from hhm_client import PUT_CELLS, STATUS, Client, cells_of  # noqa: E402
+from hhm_events import Limit  # noqa: E402
+from hhm_heads import Wanted  # noqa: E402
+from identities import ONE, TWO, told_by  # noqa: E402
 from peers import Peer, frame_of  # noqa: E402
+from stand_in import StandIn  # noqa: E402
 
 LARGE = ["--rows", str(1 << 60), "--cols", str(1 << 60)]
 WAIT = 60
@@ -102,10 +109,10 @@ def a_file_counts_once():
         check("another map: no table was written", os.path.exists(path_of("7.names")), False)
         check("nothing of those was put", sum_of(at), before)
         with open(os.path.join(path_of("state"), "hhm", "client-7.batches"), "rb+") as state:
-            lines = state.read().split(b"\n", 1)
+            lines = [line for line in state.read().splitlines(True) if not line.startswith(b"books ")]
             check("the state begins with its options", lines[0].startswith(b"options {"), True)
             state.seek(0)
-            state.write(lines[1])
+            state.writelines(lines[1:])
             state.truncate()
         check("a state of an earlier hhmc", load(at, "--batch", 1000, 7, file, second)[::2],
               ("new 0 repeats 4 events 3200\n", 0))
@@ -290,6 +297,181 @@ def a_load_that_the_server_refuses_leaves_nothing():
         check("a later batch: names may be in use", server.content(names), b"x\ny\nz\na\n")
 
 
+def flow_file(name, *counts):
+    """A file of flows with these counts, each of a place of its own."""
+    lines = [f"0.0.0.{place},0.0.1.0,{count}\n" for place, count in enumerate(counts)]
+    return written(name, "source,destination,packets\n" + "".join(lines))
+
+
+def lines_of(path):
+    """Of each line of a state file its first word, with the books where it has them."""
+    with open(path) as file:
+        words = [line.split() for line in file]
+    return [tuple(line) if line[0] in ("books", "owners") else line[0] for line in words]
+
+
+def a_state_is_of_a_book():
+    """One client number for two servers, in turn: each has its own events, and others are refused."""
+    one, other, state = flow_file("one.csv", 1, 2, 3), flow_file("other.csv", 4, 5), path_of("books.state")
+    same = flow_file("same.csv", 4, 2, 3)
+    with StandIn(stats=told_by(ONE), name="one") as first, StandIn(stats=told_by(TWO), name="two") as second:
+        for at, file, wanted in [
+            (first, one, ("new 2 repeats 0 events 3\n", 0)), (second, other, ("new 1 repeats 0 events 2\n", 0)),
+            (first, one, ("new 0 repeats 2 events 3\n", 0)), (second, other, ("new 0 repeats 1 events 2\n", 0)),
+            (first, other, ("", 2)), (second, one, ("", 2)), (second, same, ("", 2)),
+        ]:
+            puts = at.asked[PUT_CELLS]
+            output, error, status = load(at, "--state", state, "--batch", 2, 7, file)
+            check(f"two books: {at.name} {file}", (output, status), wanted)
+            check(f"two books: {at.name} {file}: told", "batch 0 of client 7 has other events" in error, status == 2)
+            if status == 2:
+                check(f"two books: {at.name} {file}: nothing was sent", at.asked[PUT_CELLS], puts)
+        lines = [("books", ONE), "options", "2", "1", ("books", TWO), "options", "2"]
+        check("two books: the state", lines_of(state), lines)
+        second.begin_again(told_by("a" * 32), 0)
+        check("a new book", load(second, "--state", state, "--batch", 2, 7, one)[::2],
+              ("new 2 repeats 0 events 3\n", 0))
+        check("a new book: the state", lines_of(state), [*lines, ("books", "a" * 32), "options", "2", "1"])
+
+
+def another_number_is_warned_of_in_its_book():
+    """The first events of another number, in the usual place of states: where they are in this book, or may be."""
+    file = flow_file("twin.csv", 1, 2, 3, 4, 5, 6, 7)
+    told = "its first 7 events were loaded as client 640 too"
+    with StandIn(stats=told_by(ONE), name="one") as first, StandIn(stats=told_by(TWO), name="two") as second:
+        for at, client, is_warned in [(first, 640, False), (second, 641, False), (second, 640, False),
+                                      (first, 642, True), (second, 643, True)]:
+            output, error, _ = load(at, client, file)
+            check(f"twin {client} {at.name}", (output, told in error), ("new 1 repeats 0 events 7\n", is_warned))
+    with StandIn(name="none") as at:
+        check("twin, no identity", told in load(at, 644, file)[1], True)
+    with StandIn(stats=told_by("c" * 32), name="three") as at:
+        found = load(at, 645, file)[1]
+        check("twin of a book that isn't known", "were loaded as client 644 too" in found, True)
+
+
+# Loads after one of an earlier hhmc, whose state has the file `old`: into its book, which tells an identity now, or
+# into another one; what they say, and whether the state is taken over then.
+OLD = [
+    ("its book, the same file", True, "old", [], ("new 0 repeats 2 events 3\n", "", 0), True),
+    ("its book, other events", True, "other", [], ("", "batch 0 of client 7 has other events", 2), False),
+    ("its book, as many events", True, "alike", [], ("", "batch 0 of client 7 has other events", 2), False),
+    ("its book, other events later", True, "later", [], ("", "batch 1 of client 7 has other events", 2), True),
+    ("its book, other batches", True, "old", ["--batch", 3], ("", "was loaded with --batch 2, and this", 2), False),
+    ("another book, the same file", False, "old", [], ("new 2 repeats 0 events 3\n", "", 0), False),
+    ("another book, other events", False, "other", [], ("new 1 repeats 0 events 2\n", "", 0), False),
+]
+
+
+def a_state_without_books_is_taken_over():
+    files = {"old": (1, 2, 3), "other": (4, 5), "alike": (2, 1, 3), "later": (1, 2, 4)}
+    files = {name: flow_file(f"{name}.csv", *counts) for name, counts in files.items()}
+    for what, is_its, name, more, (output, told, status), is_taken in OLD:
+        state = path_of(f"{what}.state")
+        given = ["--state", state, "--batch", 2]
+        with StandIn(name="old") as at:
+            check(f"old state: {what}: made", load(at, *given, 7, files["old"])[::2],
+                  ("new 2 repeats 0 events 3\n", 0))
+            check(f"old state: {what}: its lines", lines_of(state), ["options", "2", "1"])
+            at.begin_again(told_by(ONE), 2 if is_its else 0)
+            found = load(at, *given, *more, 7, files[name])
+            check(f"old state: {what}", (found[0], told in found[1], found[2]), (output, True, status))
+            check(f"old state: {what}: taken over", ("owners", ONE) in lines_of(state), is_taken)
+            if status == 2:
+                check(f"old state: {what}: nothing counts", at.total(), 6)
+            if is_its:
+                check(f"old state: {what}: then", load(at, *given, 7, files["old"])[::2],
+                      ("new 0 repeats 2 events 3\n", 0))
+                output, error, status = load(at, *given, 7, files["later"])
+                check(f"old state: {what}: then others", (output, "batch 1 of client 7" in error, status),
+                      ("", True, 2))
+        with StandIn(stats=told_by(TWO), name="new") as at:
+            check(f"old state: {what}: a further book", load(at, *given, 7, files["other"])[::2],
+                  ("new 1 repeats 0 events 2\n", 0))
+
+
+def names_of_a_state_without_books():
+    """Other names under a number that an earlier hhmc used aren't in the table: the server refuses them."""
+    names, state = path_of("old.names"), path_of("named.state")
+    given = ["--cols", "1,2", "--map", "name", "--names", names, "--state", state, 7]
+    with StandIn(name="named") as at:
+        check("old names", load(at, *given, written("old.csv", "a,b\n"))[2], 0)
+        at.begin_again(told_by(ONE), 1)
+        _, error, status = load(at, *given, written("new.csv", "c,d\ne,f\n"))
+        check("other names", (status, "has other events" in error), (2, True))
+        check("other names: the table", server.content(names), b"a\nb\n")
+
+
+def values_have_books_of_their_own():
+    """Of two servers one begins again without its files: the load goes on there from the start, by one state."""
+    file = written("two.csv", "src,dst,packets,bytes\n0.0.0.1,0.0.0.2,3,40\n0.0.0.2,0.0.0.2,1,2\n")
+    state = path_of("values.state")
+    with StandIn(stats=told_by(ONE), name="packets") as first, StandIn(stats=told_by(TWO), name="bytes") as second:
+        values = ["--value", f"packets=unix:{first.path}", "--value", f"bytes=unix:{second.path}"]
+        given = ["load", *values, "--state", state, "--batch", 1, 7, file]
+        check("two values", hhmc(*given)[::2], ("new 2 repeats 0 events 2\n", 0))
+        lines = [("books", ONE, TWO), "options", "1", "1"]
+        check("two values: the state", lines_of(state), lines)
+        second.begin_again(told_by("b" * 32), 0)
+        check("two values: a new book", hhmc(*given)[::2], ("new 2 repeats 0 events 2\n", 0))
+        check("two values: the new state", lines_of(state), [*lines, ("books", "b" * 32), "options", "1", "1"])
+        check("two values: totals", (first.total(), second.total()), (4, 42))
+
+
+def values_take_over_a_state_without_books():
+    """Both servers have what is in it, and the load goes on with more at both."""
+    lines = ["src,dst,packets,bytes\n", *(f"0.0.0.{place},0.0.0.2,{place},40\n" for place in range(4))]
+    state = path_of("grown.state")
+    with StandIn(name="packets") as first, StandIn(name="bytes") as second:
+        values = ["--value", f"packets=unix:{first.path}", "--value", f"bytes=unix:{second.path}"]
+        for end, wanted in [(3, "new 2 repeats 0 events 2\n"), (5, "new 2 repeats 2 events 4\n"),
+                            (5, "new 0 repeats 4 events 4\n")]:
+            file = written("grown.csv", "".join(lines[:end]))
+            check(f"grown values: {wanted}", hhmc("load", *values, "--state", state, "--batch", 1, 7, file)[::2],
+                  (wanted, 0))
+            first.stats, second.stats = told_by(ONE), told_by(TWO)
+        # (the options and the first line were noted before it was known whose the old lines are)
+        noted = [("books", ONE, TWO), "options", "1", ("owners", ONE, TWO), "1", "1"]
+        check("grown values: the state", lines_of(state), ["options", "1", "1", *noted])
+
+
+class Moved(Client):
+    """A client whose server began again, with another book, right after it was asked which book it has."""
+
+    def book_id(self):
+        found, self.has_moved = super().book_id(), hasattr(self, "has_moved")
+        if self.has_moved:
+            return found
+        self.close()
+        return ONE
+
+
+def a_server_that_begins_again_before_the_first_put():
+    """The load begins again too, so that the state has the events under the book that got them."""
+    state, limit = path_of("moved.state"), Limit(0.0, 0)
+    file = flow_file("moved.csv", 1, 2)
+    options = hhm_load.Options([file], None, Wanted(None, ()), None, None, state, 10, limit, False)
+    with StandIn(stats=told_by(TWO), name="moved") as at, contextlib.redirect_stderr(io.StringIO()) as told:
+        found = hhm_load.Load([Moved(unix=at.path, client=7)], options).run()
+    check("moved", (found, "loading again from the start" in told.getvalue()), ("new 0 repeats 1 events 2\n", True))
+    check("moved: the state", lines_of(state), [("books", ONE), "options", "2", ("books", TWO), "options", "2"])
+
+
+def one_number_for_two_servers():
+    """The built program, in the usual place of states: as a walk through two servers does it."""
+    one, other = flow_file("first walk.csv", 1, 2), flow_file("second walk.csv", 3, 4, 5)
+    with Server(LARGE, tcp=False) as at:
+        check("a walk", load(at, 630, one)[::2], ("new 1 repeats 0 events 2\n", 0))
+        with Client(unix=at.path) as hhm:
+            has_identity = hhm.book_id() is not None
+    with Server(LARGE, tcp=False) as at:
+        if has_identity:
+            check("another walk", load(at, 630, other)[::2], ("new 1 repeats 0 events 3\n", 0))
+            check("another walk: the first file", load(at, 630, one)[::2], ("", 2))
+        else:
+            print("not tried: one number for two servers: this program tells no identity")
+
+
 class Refuser(Peer):
     """A server without a batch that refuses each put by one code."""
 
@@ -469,6 +651,14 @@ def all_are_tried():
     refusals_tell_the_line()
     names_keep_their_numbers()
     a_refused_load_writes_no_names()
+    a_state_is_of_a_book()
+    another_number_is_warned_of_in_its_book()
+    a_state_without_books_is_taken_over()
+    names_of_a_state_without_books()
+    values_have_books_of_their_own()
+    values_take_over_a_state_without_books()
+    a_server_that_begins_again_before_the_first_put()
+    one_number_for_two_servers()
     a_load_that_the_server_refuses_leaves_nothing()
     a_refusal_that_may_hide_a_batch_keeps_its_names()
     ctrl_c_says_how_to_go_on()

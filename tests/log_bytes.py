@@ -7,7 +7,7 @@ total of a batch.
 """
 from typing import NamedTuple
 
-from snap_bytes import MOST, OWNED, SIZE, UNKNOWN, crc32c, field, fields, identity
+from snap_bytes import BOOK, MOST, OWNED, SIZE, UNKNOWN, Origin, crc32c, field, fields, identity
 
 PAGE = 4_096
 CHUNK = 4_072
@@ -39,7 +39,7 @@ def link_of(entries):
     return crc32c(b"".join(fields(*entry) for entry in entries))
 
 
-def head(before=(), setup=SMALL, first=None, total=None, link=None, origin=UNKNOWN):
+def head(before=(), setup=SMALL, first=None, total=None, link=None, origin=OWNED):
     """The head page of a log with these entries before it, or with other numbers of them.
 
     It is of version 1 where there is no origin. A log has the book and the window of one.
@@ -85,7 +85,7 @@ def block(place, batches):
     return pages_of(place, payload(batches))
 
 
-def log(blocks, before=(), setup=SMALL, origin=UNKNOWN):
+def log(blocks, before=(), setup=SMALL, origin=OWNED):
     """A log of blocks, each a list of batches, with these entries before it."""
     held, place = head(before, setup, origin=origin), len(before)
     for batches in blocks:
@@ -170,21 +170,24 @@ class Log:
         )  # fmt: skip
         self.first, self.total = number_in(held, end + 17), number_in(held, end + 25)
         self.link = number_in(held, end + 33, 4)
-        if not self.is_in_range():
+        if not self.is_in_range(version):
             raise LogFault("BadHead", 0)
         if number_in(held, PAGE - 4, 4) != crc32c(held[: PAGE - 4]):
             raise LogFault("HeadCheck", 0)
         # In version 2 a book and a window come after the link, and any will do.
+        self.origin = UNKNOWN
+        if version == 2:
+            self.origin = Origin(number_in(held, end + 37, 16), number_in(held, end + 53))
         if any(held[end + (37 if version == 1 else 61) : PAGE - 4]):
             raise LogFault("BadHead", 0)
 
-    def is_in_range(self):
-        """Whether each number of the head is one that a head may have."""
-        setup = self.setup
+    def is_in_range(self, version):
+        """Whether each number of the head is one that a head of this version may have."""
+        setup, most = self.setup, 1_000_000 if version == 1 else 2**30
         rises = all(low < high for low, high in zip((0, *setup.cuts), setup.cuts))
         return (
             1 <= setup.rows <= SIZE and 1 <= setup.cols <= SIZE and rises and max(setup.cuts, default=0) <= 2**40
-            and 1 <= setup.shards <= 64 and 1 <= setup.limit <= MOST and 1 <= setup.most <= 1_000_000
+            and 1 <= setup.shards <= 64 and 1 <= setup.limit <= MOST and 1 <= setup.most <= most
             and self.first <= setup.most and self.total <= setup.limit
         )  # fmt: skip
 
@@ -270,10 +273,22 @@ class Log:
         return f"log first {self.first} batches {len(self.all_batches())} pages {self.whole()} rest {self.rest}"
 
 
-def joined(known, found, setup=SMALL):
+def with_book(held, book=BOOK):
+    """The bytes of a log, which are judged as they are, with this book in place of the one that it has, if any."""
+    found = Log(held)
+    if not found.origin.book:
+        return held
+    at = 66 + 8 * len(found.setup.cuts)
+    return checked_head(held[:at] + field(book, 16) + held[at + 16 : PAGE - 4]) + held[PAGE:]
+
+
+def joined(known, found, setup=SMALL, origin=UNKNOWN):
     """The batches of a snapshot, which is given by its batches, with those of a log behind its end; a `JoinFault` where
-    the two don't belong together."""
-    if found.setup != setup:
+    the two don't belong together. A book that isn't known goes with each. All are judged by the snapshot's setup, into
+    whose rows and columns the log's fit."""
+    if origin.book and found.origin.book and origin.book != found.origin.book:
+        raise JoinFault("log: OtherBook")
+    if found.setup.rows > setup.rows or found.setup.cols > setup.cols:
         raise JoinFault("settings: LogDiffers")
     entries = [entry_of(batch) for batch in known]
     before = entries[: found.first]
@@ -327,13 +342,16 @@ def check_heads(entry):
     for held, version, fields_before, owned, checksum in [
         (head(origin=None), 1, none, "", "ba8aa704"),
         (head([entry], origin=None), 1, one, "", "5aa3e14d"),
-        (head(), 2, none, unknown, "9ed95ae1"),
-        (head(origin=OWNED), 2, none, owner, "9ec0e3d8"),
-        (head([entry]), 2, one, unknown, "7ef01ca8"),
+        (head(origin=UNKNOWN), 2, none, unknown, "9ed95ae1"),
+        (head(), 2, none, owner, "9ec0e3d8"),
+        (head([entry], origin=UNKNOWN), 2, one, unknown, "7ef01ca8"),
     ]:
         spelled = bytes.fromhex(f"48484d2d4c4f470a {version:08x} {setup} {fields_before} {owned}")
         assert len(spelled) == (82 if version == 1 else 106)
         assert held == spelled.ljust(PAGE - 4, b"\0") + bytes.fromhex(checksum)
+    for before in ([], [entry]):
+        assert with_book(head(before, origin=Origin(1)), BOOK) == head(before)
+        assert with_book(head(before, origin=UNKNOWN)) == head(before, origin=UNKNOWN)
 
 
 check_examples()

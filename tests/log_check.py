@@ -20,7 +20,7 @@ from log_bytes import (
     CHUNK, PAGE, SMALL, JoinFault, Log, LogFault, check_line, checked_head, entry_of, head, log, lost, page,
 )  # fmt: skip
 from program import SOME, Case, leave_room, run
-from snap_bytes import BOOK, MOST, NONE, OWNED, Origin, field, fields, snapshot, with_byte
+from snap_bytes import BOOK, MOST, NONE, OWNED, PAIRED, UNKNOWN, Origin, field, fields, snapshot, with_byte
 
 FIVE, THREE, NINE = (7, 1, [(0, 0, 5)]), (8, 1, [(0, 0, 3)]), (9, 1, [(2, 1, 4)])
 # A block of it has five pages.
@@ -101,6 +101,15 @@ TAKEN = [
         for version in (2, 3)
     ],
     ("a log of version 1", None, log([[FIVE], [THREE]], origin=None), line(2, 8, 1) + log_line(0, 2, 3, 0)),
+    *[
+        (
+            f"a log of at most {most} batches",
+            None,
+            log([[FIVE], [THREE]], setup=log_bytes.SMALL._replace(most=most), origin=origin),
+            line(2, 8, 1) + log_line(0, 2, 3, 0),
+        )
+        for most, origin in ((1_000_000, None), (2**30, OWNED))
+    ],
     (
         "a log of version 1 behind a save",
         saved(FIVE, THREE),
@@ -116,12 +125,6 @@ TAKEN = [
         )
         for origin in (OWNED, Origin(BOOK, 0), Origin(2**128 - 1, MOST - 1))
     ],
-    (
-        "a log of another book, which is not compared so far",
-        snapshot([FIVE], 5, past=NONE, origin=OWNED),
-        log([[THREE]], before(FIVE), origin=Origin(1, 2)),
-        line(2, 8, 1) + log_line(1, 1, 2, 0),
-    ),
     ("a lost byte of the last block", None, with_last(0), line(1, 5, 1) + log_line(0, 1, 2, 1)),
     ("a byte behind the blocks", None, TWO + b"\1", line(2, 8, 1) + log_line(0, 2, 3, 1)),
     ("a batch without cells", None, log([[(1, 1, [])]]), line(1, 0, 0) + log_line(0, 1, 2, 0)),
@@ -140,7 +143,7 @@ def other_page(number=0, pages=1, place=1, kind=1):
 
 
 HEAD_BYTES = head()[: PAGE - 4]
-OWNED_HEAD = head(origin=OWNED)
+UNKNOWN_HEAD = head(origin=UNKNOWN)
 
 # A name, the log, and what is wrong with it.
 NO_LOGS = [
@@ -162,17 +165,23 @@ NO_LOGS = [
     ("65 shards", head(setup=SMALL._replace(shards=65)), "BadHead at page 0"),
     ("no limit", head(setup=SMALL._replace(limit=0)), "BadHead at page 0"),
     ("no batches", head(setup=SMALL._replace(most=0)), "BadHead at page 0"),
+    ("more than 2^30 batches", head(setup=SMALL._replace(most=2**30 + 1)), "BadHead at page 0"),
+    (
+        "more than 1,000,000 batches in version 1",
+        head(setup=SMALL._replace(most=1_000_001), origin=None),
+        "BadHead at page 0",
+    ),
     ("a first place above the most batches", head(first=11), "BadHead at page 0"),
     ("a total above the limit", head(total=101), "BadHead at page 0"),
     ("a byte behind the fields", checked_head(HEAD_BYTES[:-1] + b"\1"), "BadHead at page 0"),
     ("the first byte behind the window", checked_head(HEAD_BYTES[:106] + b"\1"), "BadHead at page 0"),
     ("the first byte behind a link of version 1", checked_head(head(origin=None)[:82] + b"\1"), "BadHead at page 0"),
     ("a byte behind the fields and a wrong check", with_byte(head(), 106, 1), "HeadCheck at page 0"),
-    ("another first byte of the book", with_byte(OWNED_HEAD, 82, 1), "HeadCheck at page 0"),
-    ("another last byte of the book", with_byte(OWNED_HEAD, 97, 0), "HeadCheck at page 0"),
-    ("another first byte of the window", with_byte(OWNED_HEAD, 98, 0), "HeadCheck at page 0"),
-    ("another last byte of the window", with_byte(OWNED_HEAD, 105, 0), "HeadCheck at page 0"),
-    ("the check of another book", OWNED_HEAD[: PAGE - 4] + head()[PAGE - 4 :], "HeadCheck at page 0"),
+    ("another first byte of the book", with_byte(head(), 82, 1), "HeadCheck at page 0"),
+    ("another last byte of the book", with_byte(head(), 97, 0), "HeadCheck at page 0"),
+    ("another first byte of the window", with_byte(head(), 98, 0), "HeadCheck at page 0"),
+    ("another last byte of the window", with_byte(head(), 105, 0), "HeadCheck at page 0"),
+    ("the check of another book", head()[: PAGE - 4] + UNKNOWN_HEAD[PAGE - 4 :], "HeadCheck at page 0"),
     ("a wrong check", head()[:-1] + b"\0", "HeadCheck at page 0"),
     ("a first block at another place", head() + B2, "Damaged at page 1"),
     ("a block twice", head() + B1 + B1, "Damaged at page 2"),
@@ -250,7 +259,12 @@ NOT_LEFT = [
     ("a page at another place that lost a byte", lost(head() + B1 + other_page(place=3), (2, 79, 80)), 2),
 ]  # fmt: skip
 
-OTHER = SMALL._replace(shards=3)
+OTHER = SMALL._replace(rows=4, shards=3)
+# Setups that fit into it, whose other numbers are any.
+FITTING = [SMALL._replace(**{name: value}) for name, value in [
+    ("rows", 1), ("cols", 1), ("cuts", ()), ("shards", 3), ("limit", 99), ("limit", 101), ("most", 9), ("most", 11),
+]]  # fmt: skip
+OF_BOOK, OF_OTHER = snapshot([FIVE], 5, past=NONE, origin=PAIRED), Origin(BOOK ^ 1)
 
 # A name, the snapshot or None, the log, and why they don't belong together.
 NOT_JOINED = [
@@ -269,7 +283,12 @@ NOT_JOINED = [
     ("a folded batch again", snapshot([], 5, past=FOLDED), log([[FIVE]], before(FIVE)), "log: NotFresh at batch 1"),
     ("the limit passed", None, log([[(1, 1, [(0, 0, 100)])], [(1, 2, [(0, 0, 1)])]]), "log: NotFresh at batch 1"),
     ("eleven batches", None, log([[(1, n, [])] for n in range(11)]), "log: NotFresh at batch 10"),
-    # The setup is judged first, then the gap, then the link, then the entries.
+    # The book is judged first, then the setup, then the gap, then the link, then the entries.
+    ("another book and setup", OF_BOOK, log([[FIVE]], (), OTHER, OF_OTHER), "log: OtherBook"),
+    ("another book and a gap", OF_BOOK, log([], before(FIVE, THREE), origin=OF_OTHER), "log: OtherBook"),
+    ("another book and link", OF_BOOK, head(before(FIVE), link=0, origin=OF_OTHER), "log: OtherBook"),
+    ("another book and batch", OF_BOOK, log([[THREE]], origin=OF_OTHER), "log: OtherBook"),
+    ("another setup of one book", OF_BOOK, log([[FIVE]], (), OTHER), "settings: LogDiffers"),
     ("another setup and a gap", saved(FIVE), log([], before(FIVE, THREE), OTHER), "settings: LogDiffers"),
     ("a gap and another link", saved(FIVE), head(before(FIVE, THREE), link=1), "log: Gap at batch 2"),
     (
@@ -285,9 +304,18 @@ NOT_JOINED = [
         "log: EntryDiffers at batch 1",
     ),
     *[
-        (f"another {name}", saved(FIVE), log([[FIVE]], (), SMALL._replace(**{name: value})), "settings: LogDiffers")
-        for name, value in [("rows", 4), ("cols", 4), ("cuts", (2, 5)), ("shards", 3), ("limit", 99), ("most", 9)]
+        (f"larger: {name}", saved(FIVE), log([[FIVE]], (), SMALL._replace(**{name: 4})), "settings: LogDiffers")
+        for name in ("rows", "cols")
     ],
+    # The list is judged by the snapshot's numbers, a block by those of its log.
+    ("the snapshot's limit passed", saved(FIVE), log([[(1, 1, [(0, 0, 96)])]], before(FIVE), SMALL._replace(limit=200)),
+     "log: NotFresh at batch 1"),
+    ("more batches than the snapshot's", saved(FIVE), log([[(1, n, [])] for n in range(10)], before(FIVE),
+     SMALL._replace(most=20)), "log: NotFresh at batch 10"),
+    ("a place outside of the log", saved(FIVE), log([[NINE]], before(FIVE), SMALL._replace(rows=2)),
+     "log: BadBlock at page 1"),
+    ("a batch above the log's limit", saved(FIVE), log([[THREE]], before(FIVE), SMALL._replace(limit=5)) +
+     log_bytes.block(2, [(1, 1, [(0, 0, 6)])]), "log: BadBlock at page 2"),
 ]  # fmt: skip
 
 
@@ -319,16 +347,16 @@ def checked(program, folder, held, logged, output=None, told=None):
     return run(program, files.case(error=f"hhm: {told}\n", status=status_of(told)))
 
 
-def wanted(held, known, logged, setup=SMALL):
+def wanted(held, known, logged, setup=SMALL, origin=UNKNOWN):
     """What is wanted of a snapshot with these batches, or without one, and a log, by the plainer reader."""
     try:
         found = Log(logged)
-        both = log_bytes.joined(known, found, found.setup if held is None else setup)
+        both = log_bytes.joined(known, found, found.setup if held is None else setup, origin)
     except LogFault as fault:
         return None, f"log: {fault}"
     except JoinFault as fault:
         return None, str(fault)
-    return f"{check_line(both, found.setup)}\n{found.line()}\n", None
+    return f"{check_line(both, found.setup if held is None else setup)}\n{found.line()}\n", None
 
 
 def tables(program):
@@ -343,6 +371,26 @@ def tables(program):
             yield f"{name}, by the plainer reader", [] if found == (None, f"log: {told}") else [f"it says {found}"]
         for name, held, logged, told in NOT_JOINED:
             yield name, checked(program, folder, held, logged, told=told)
+        for setup in FITTING:
+            logged = log([[FIVE], [THREE]], (), setup)
+            output = line(2, 8, 1) + log_line(0, 2, 3, 0)
+            yield f"a log of {setup}", checked(program, folder, saved(FIVE), logged, output)
+            found = wanted(saved(FIVE), [FIVE], logged)
+            yield f"a log of {setup}, by the plainer reader", [] if found == (output, None) else [f"it says {found}"]
+
+
+def books(program):
+    """Snapshots and logs of each two books: only two that are known and differ don't belong together."""
+    some = [None, UNKNOWN, OWNED, Origin(BOOK ^ 1), Origin(BOOK ^ 1 << 127), Origin(2**128 - 1)]
+    with tempfile.TemporaryDirectory() as folder:
+        for one, other in itertools.product(some, some):
+            held = snapshot([FIVE], 5, past=NONE, version=3 if one is None else 4, origin=one or UNKNOWN)
+            logged, name = log([[THREE]], before(FIVE), origin=other), f"a snapshot of {one}, a log of {other}"
+            is_one = not (one and one.book and other and other.book) or one == other
+            output, told = (line(2, 8, 1) + log_line(1, 1, 2, 0), None) if is_one else (None, "log: OtherBook")
+            yield name, checked(program, folder, held, logged, output, told)
+            found = wanted(held, [FIVE], logged, origin=one or UNKNOWN)
+            yield f"{name}, by the plainer reader", [] if found == (output, told) else [f"it says {found}"]
 
 
 def ends(program):
@@ -599,7 +647,8 @@ def long_logs(program):
 
 
 PARTS = [
-    tables, ends, told_first, nothing_changes, outputs_that_fail, cuts, flips, torn_blocks, shuffled, joins, holes, long_logs,
+    tables, books, ends, told_first, nothing_changes, outputs_that_fail, cuts, flips, torn_blocks, shuffled, joins, holes,
+    long_logs,
 ]  # fmt: skip
 
 

@@ -17,9 +17,9 @@ import server
 from disks import FAIL, OPENS, RENAMES, SYNCS, SYNCS_OF_FOLDERS, WRITES, Page, Room
 from log_bytes import head, log
 from refused import library_of
-from server import SMALL, WAIT, Server, accepted, check, content, put_frame, refused, text
+from server import SMALL, WAIT, Server, accepted, check, put_frame, refused, text
 from server_ends import events_of
-from server_faults import SAVE, STOP, STOPPING, asked, in_folder, write
+from server_faults import SAVE, STOP, STOPPING, asked, in_folder, in_snap, write
 from server_log import BOTH, FIVE, THREE, TWO, in_log, put_of, run_each, saved, snapshot_of, started, stopped
 from server_log_faults import LOG_FAILED, LOG_FULL, SAVE_FAILED, answer
 
@@ -152,8 +152,9 @@ def a_full_log_is_told():
 
 def saves_that_fail_tell_their_file():
     """A snapshot that can't be written, and logs that can't be made, written, synced or named behind one."""
+    # The first opening looks whose log stands there.
     for name, call, number, wanted, is_broken in [
-        ("its file", OPENS, 1, f"file=log step=Create {BROKEN}", False),
+        ("its file", OPENS, 2, f"file=log step=Create {BROKEN}", False),
         ("its head", WRITES, 1, f"file=log step=Write {BROKEN}", False),
         ("its sync", SYNCS, 1, f"file=log step=Sync {BROKEN}", False),
         ("its name", RENAMES, 1, f"file=log step=Rename {BROKEN}", True),
@@ -189,7 +190,7 @@ def saves_that_fail_tell_their_file():
 def a_last_log_that_fails_is_told():
     """At a Stop the snapshot is saved and the log isn't begun anew: status 4, and the next start has all."""
     for name, call, number, log_only, step in [
-        ("Create", OPENS, 1, True, "Create"),
+        ("Create", OPENS, 2, True, "Create"),
         ("Write", WRITES, 1, True, "Write"),
         ("Sync", SYNCS, 1, True, "Sync"),
         ("Rename", RENAMES, 1, True, "Rename"),
@@ -209,7 +210,7 @@ def a_last_log_that_fails_is_told():
                 check(f"last {name}: told", [it for it in events if it.startswith(("saved", "save-failed", "stopped"))],
                       [f"save-failed file=log step={step} {BROKEN}"] if told else [])
             room.page.disarm()
-            check(f"last {name}: the snapshot", content(room.snap), snapshot_of([FIVE, THREE]))
+            check(f"last {name}: the snapshot", in_snap(room.snap), snapshot_of([FIVE, THREE]))
             check(f"last {name}: a start", started("--log", room.log, "--snapshot", room.snap), stopped(2, 8))
             check(f"last {name}: the log then", in_log(room.log), head(BOTH))
 

@@ -3,16 +3,17 @@
 
     python3 tests/log_torture.py PATH-TO-HHM [--long SECONDS] [--kills N] [--seed S]
 
-A story is one log with its snapshot, and the lives of servers on them. In each life several connections put batches, as
-texts and as cells, with up to 64 on the way, and save meanwhile; it ends by SIGKILL at a drawn moment or at a drawn
-call, or by a Stop. In some stories the program is alone. In the others lose_power.c is loaded before it: calls fail in
-some lives, or move a part of their bytes, and between two lives the files may be made anew as a loss of power may leave
-them (disks.py); so are they at drawn moments of the life, for `hhm check` to read. Servers of two stories of three fold
-while they run.
+A story is one log with its snapshot, and the lives of servers on them. Half of the stories begin without a file, the
+others with empty files of older versions. In each life several connections put batches, as texts and as cells, with up
+to 64 on the way, and save meanwhile; it ends by SIGKILL at a drawn moment or at a drawn call, or by a Stop. In some
+stories the program is alone. In the others lose_power.c is loaded before it: calls fail in some lives, or move a part of
+their bytes, and between two lives the files may be made anew as a loss of power may leave them (disks.py); so are they at
+drawn moments of the life, for `hhm check` to read. Servers of two stories of three fold while they run.
 
 Each start must succeed, unless a call of it was made to fail. Each batch that was answered Accepted is there at its
 place, however often the server died since, and is answered so again; each that was sent and not answered is there once
-or not at all, and is taken when it is sent again; and at the end the sum is that of a dictionary of Python.
+or not at all, and is taken when it is sent again; the book keeps the identity that was told; and at the end the sum is
+that of a dictionary of Python.
 
 At the end stories are lived of which a kind of call isn't seen by the disk, as if the program didn't make it: each must
 come to something that is wrong, or this test would find nothing. With `--long` these are more.
@@ -38,9 +39,12 @@ import tempfile
 import threading
 import time
 import traceback
+from pathlib import Path
 
 import disks
+import log_bytes
 import server
+import snap_bytes
 from disks import BEGUN, CLOSES, DIE_BEFORE, DIE_BEHIND, FAIL, OPENS, RENAMES, SENDS, SHORT, SYNCS, SYNCS_OF_FOLDERS
 from disks import CUTS, WRITES, Disk, Page, Room, Sent, is_until, records_of
 from generated import spelled
@@ -49,7 +53,10 @@ from refused import library_of
 
 ROWS = COLS = 1000
 SIZE = ["--rows", str(ROWS), "--cols", str(COLS), "--workers", "12", "--shards", "3", "--cuts", "64,4096"]
-STATUS, SAVE, STOP, STORED = (struct.pack(">IB", 0, kind) for kind in (4, 6, 7, 9))
+SETUP = log_bytes.Setup(ROWS, COLS, (64, 4096), 3, 2**64 - 1, 1_000_000)
+# What a story begins with: no file in most, or empty files of older versions, which don't say whose they are.
+OLD_FILES = ((), (), (), ("snap",), ("log",), ("snap", "log"))
+STATUS, SAVE, STOP, STORED, STATS = (struct.pack(">IB", 0, kind) for kind in (4, 6, 7, 9, 12))
 ACCEPTED, COUNTS, SAVED, STOPPING, REFUSED = 0x81, 0x84, 0x86, 0x87, 0xFF
 SAVE_FAILED, LOG_FULL, LOG_FAILED = 42, 34, 35
 SECONDS, WAIT = 20, 60
@@ -155,16 +162,29 @@ class Link:
     def send(self, frames):
         self.socket.sendall(frames)
 
-    def reply(self):
-        """The kind and the numbers of a reply; a ConnectionError where none comes."""
+    def body(self):
+        """The kind and the body of a reply; a ConnectionError where none comes."""
         head = self.stream.read(5)
         size = int.from_bytes(head[:4], "big")
         body = self.stream.read(size)
         if len(head) < 5 or len(body) < size:
             raise ConnectionError("the server has gone")
-        if head[4] == REFUSED:
+        return head[4], body
+
+    def reply(self):
+        """The kind and the numbers of a reply."""
+        kind, body = self.body()
+        if kind == REFUSED:
             return REFUSED, struct.unpack(">HQ", body)
-        return head[4], struct.unpack(f">{size // 8}Q", body)
+        return kind, struct.unpack(f">{len(body) // 8}Q", body)
+
+    def identity(self):
+        """The identity of the book, as Stats tells it."""
+        self.send(STATS)
+        _, body = self.body()
+        found = re.findall(rb'^book\{id="([0-9a-f]{32})"\} 1$', body, re.MULTILINE)
+        demand(len(found) == 1, f"a Stats: {body!r}")
+        return found[0]
 
     def ask(self, frame):
         self.send(frame)
@@ -312,8 +332,19 @@ class Story:
         self.room, self.book, self.plan = Room(top), Book(), None
         self.disk = Disk(self.room.folder, misses)
         self.socket, self.lives, self.looks, self.first = os.path.join(top, "socket"), 0, 0, {}
+        self.identity = None
         self.words = [server.PROGRAM, "serve", "--unix", self.socket, *SIZE, "--log", self.room.log]
         self.words += ["--snapshot", self.room.snap, "--fold-above", str((0, 20, 500)[seed % 3])]
+        self.lay_out(self.draw.choice(OLD_FILES), self.draw.choice((1, 2, 3)))
+
+    def lay_out(self, names, version):
+        """Files of older versions: the snapshot of this one, the log of version 1."""
+        past = None if version == 1 else snap_bytes.NONE
+        if "snap" in names:
+            Path(self.room.snap).write_bytes(snap_bytes.snapshot([], 0, *SETUP, past=past, version=version))
+        if "log" in names:
+            Path(self.room.log).write_bytes(log_bytes.log([], setup=SETUP, origin=None))
+        self.disk.settle()
 
     def start(self, may_end=False):
         """A server that listens, or None where it ended before, as a fault of the plan may have it."""
@@ -394,6 +425,9 @@ class Story:
         book = self.book
         with Link(self.socket) as link:
             may_fail = plan is not None and plan.at_start and plan.fault
+            told = link.identity()
+            demand(self.identity in (None, told), f"the book was {self.identity}, and is {told}")
+            self.identity = told
             kind, (batches, total) = link.ask(STATUS)
             stored = link.ask(STORED)
             demand(kind == COUNTS and stored == (COUNTS, (batches, total)), f"stored behind a start: {stored}")

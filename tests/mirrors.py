@@ -127,6 +127,30 @@ def mirrors_that_differ_are_told():
         check("differ: no snapshot", script("hhm_mirror.py", "/nowhere", snap(b), b.tcp)[::2], ("", 4))
 
 
+def another_book_is_not_brought_up():
+    """B begins again without its files, and the file that it had is given: nothing says what it lacks."""
+    with Hosts("file of", 2) as hosts:
+        a, b = hosts
+        for host in hosts:
+            with host.client(1) as link:
+                link.put(1, [(0, 0, 5)])
+                link.save()
+                had = link.book_id()
+        old = in_folder("old B.snap")
+        b.kill()
+        os.rename(snap(b), old)
+        b.start()
+        with b.client() as link:
+            has = link.book_id()
+        if has is None:
+            print("not tried: a mirror of another book: this program tells no identity")
+            return
+        told = f"failed: {old} is of book {had}, and the server has book {has}: save that server first\n"
+        check("another book", script("hhm_mirror.py", snap(a), old, b.tcp), ("", told, 4))
+        check("another book: nothing is put", hosts.books(), [(1, 5), (0, 0)])
+        check("another book: its own file", brought_up(a, b), ("batches 1 lacked 1 put 1 not compared 0\n", "", 0))
+
+
 def a_mirror_needs_both():
     with Hosts("needs", 2, more=["--limit", "9"]) as hosts, mirror_of(hosts, 1) as mirror:
         mirror.put(1, [(0, 0, 5)])
@@ -332,6 +356,7 @@ def all_are_tried():
     files_of_each_version_are_read()
     mirrors_are_brought_up()
     mirrors_that_differ_are_told()
+    another_book_is_not_brought_up()
     a_mirror_needs_both()
     relays_count_once()
     an_edge_that_folds_is_shipped()

@@ -126,19 +126,31 @@ class Peer:
         raise NotImplementedError
 
 
+def is_stats(frame):
+    """Whether a request is a Stats, by which a client asks for the server's book before its first put."""
+    return frame[4:5] == b"\x0c"
+
+
+# A reply to a Stats that tells nothing.
+NO_STATS = struct.pack(">IB", 0, 0x8A)
+
+
 class Liar(Peer):
-    """Answers the first request on each connection with the same bytes, or not at all, and counts the connections."""
+    """Answers the first request on each connection with the same bytes, or not at all, and counts the connections. One
+    that lies to puts tells nothing by a Stats before them."""
 
     name = "liar"
 
-    def __init__(self, answer):
-        self.answer, self.count = answer, 0
+    def __init__(self, answer, to_puts=False):
+        self.answer, self.to_puts, self.count = answer, to_puts, 0
         super().__init__()
 
     def meet(self, link):
         with link:
             self.count += 1
-            frame_of(link)
+            if is_stats(frame_of(link)) and self.to_puts:
+                link.sendall(NO_STATS)
+                frame_of(link)
             if self.answer is not None:
                 link.sendall(self.answer)
             link.recv(1)
@@ -210,12 +222,13 @@ class Driver:
 
 class Gate(Peer):
     """Forwards so many bytes of its first connection to a server; the rest, and each reply, wait until the event
-    `is_open` is set. Further connections are forwarded as they are."""
+    `is_open` is set. A Stats at its begin goes through before, with its reply, unless the gate `holds_stats`. Further
+    connections are forwarded as they are."""
 
     name = "gate"
 
-    def __init__(self, at, most):
-        self.at, self.most = at, most
+    def __init__(self, at, most, holds_stats=False):
+        self.at, self.most, self.holds_stats = at, most, holds_stats
         self.is_open, self.is_full = threading.Event(), threading.Event()
         super().__init__()
 
@@ -227,8 +240,15 @@ class Gate(Peer):
         theirs = self.at.link()
         most = None if self.links else self.most
         self.links += [link, theirs]
-        threading.Thread(target=self.forward, args=(link, theirs, most), daemon=True).start()
-        threading.Thread(target=self.forward, args=(theirs, link, most and 0), daemon=True).start()
+        threading.Thread(target=self.begin, args=(link, theirs, most), daemon=True).start()
+
+    def begin(self, link, theirs, most):
+        with contextlib.suppress(OSError):
+            if not self.holds_stats and is_stats(link.recv(5, socket.MSG_PEEK | socket.MSG_WAITALL)):
+                theirs.sendall(frame_of(link))
+                link.sendall(frame_of(theirs))
+            threading.Thread(target=self.forward, args=(theirs, link, most and 0), daemon=True).start()
+            self.forward(link, theirs, most)
 
     def forward(self, source, target, most):
         with contextlib.suppress(OSError):
@@ -242,7 +262,8 @@ class Gate(Peer):
 
 
 class Sink(Peer):
-    """Reads all that comes over one connection after another, answers nothing, and counts the bytes of each."""
+    """Reads all that comes over one connection after another, answers nothing but a Stats at its begin, and counts the
+    bytes of each behind that."""
 
     name = "sink"
 
@@ -253,13 +274,16 @@ class Sink(Peer):
     def meet(self, link):
         with link:
             self.counts.append(0)
+            if is_stats(link.recv(5, socket.MSG_PEEK | socket.MSG_WAITALL)):
+                frame_of(link)
+                link.sendall(NO_STATS)
             while more := link.recv(65536):
                 self.counts[-1] += len(more)
 
 
 class Slow(Peer):
     """Accepts every put that it reads, one by one, its number for its place, and has next to no room for replies that
-    aren't read. With `most` it reads nothing more over its first connection after so many."""
+    aren't read. With `most` it reads nothing more over its first connection after so many requests."""
 
     name = "slow"
 
@@ -282,4 +306,5 @@ class Slow(Peer):
                     break
                 place = int.from_bytes(frame[13:21], "big")
                 is_put = frame[4] == 8
-                link.sendall(struct.pack(">IBQQ", 16, 0x81 if is_put else 0x84, place if is_put else 10**6, 10**6))
+                counts = struct.pack(">IBQQ", 16, 0x81 if is_put else 0x84, place if is_put else 10**6, 10**6)
+                link.sendall(NO_STATS if is_stats(frame) else counts)

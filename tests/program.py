@@ -195,6 +195,12 @@ for version in (2, 3, 4):
         ),
     ]
 
+# The most batches of versions 3 and 4.
+SNAPSHOTS += [
+    (snapshot(ONE, 5, most=most, past=NONE, version=version), "rows 3 cols 3 shards 2 batches 1 total 5 entries 1")
+    for version, most in ((3, 1_000_000), (4, 2**30))
+]
+
 # In version 4, books and windows of any number, with a log and without.
 SNAPSHOTS += [
     (snapshot(ONE, 5, past=NONE, origin=origin), "rows 3 cols 3 shards 2 batches 1 total 5 entries 1")
@@ -221,6 +227,7 @@ NO_SNAPSHOTS = [
     (snapshot(ONE, 5, cuts=(4, 4)), "BadHead"),
     (snapshot(ONE, 5, limit=4), "BadHead"),
     (snapshot(ONE, 5, most=0), "BadHead"),
+    (snapshot(ONE, 5, most=1_000_001), "BadHead"),
     (snapshot(ONE, 6), "TotalDiffers"),
     (snapshot(ONE, 4), "TotalDiffers"),
     (snapshot([], 1) + b"\0", "TotalDiffers"),
@@ -242,6 +249,8 @@ NO_SNAPSHOTS += [
     (snapshot(ONE, 5, past=NONE) + b"\0", "ExtraBytes"),
     (snapshot([], 5, past=FIVE) + b"\0", "ExtraBytes"),
     (snapshot([], 5, past=FIVE, most=1, count=1), "BadHead"),
+    (snapshot([], 5, past=FIVE, most=1_000_001, version=3), "BadHead"),
+    (snapshot([], 5, past=FIVE, most=2**30 + 1), "BadHead"),
     (snapshot([], 5, past=([(7, 1, 1, 3), (7, 1, 1, 2)], [(0, 0, 5)])), "RepeatedNumber"),
     (snapshot(ONE, 10, past=FIVE), "RepeatedNumber"),
     (snapshot([], 4, past=FIVE), "TotalDiffers"),

@@ -27,6 +27,7 @@ HERE = os.path.dirname(os.path.abspath(__file__))
 sys.path.insert(0, HERE)
 import log_bytes  # noqa: E402
 from program import BANNER, NONE, snapshot  # noqa: E402
+from snap_bytes import OWNED, PAIRED, FirstFault, with_book  # noqa: E402
 from server import SMALL, accepted, put_frame, refused, text  # noqa: E402
 
 EIO, EINTR = 5, 4
@@ -239,9 +240,23 @@ REPLIES = [
     struct.pack(">IBQ", 8, 0x86, 2),
 ]
 STOPPING = struct.pack(">IB", 0, 0x87)
-SAVED = snapshot([(7, 1, [(0, 0, 5)]), (8, 1, [(0, 0, 3)])], 8, past=NONE)
-# The same once both batches are folded.
-FOLDED = snapshot([], 8, past=([(7, 1, 1, 5), (8, 1, 1, 3)], [(0, 0, 8)]))
+TWO = [(7, 1, [(0, 0, 5)]), (8, 1, [(0, 0, 3)])]
+SAVED, EMPTY = snapshot(TWO, 8, past=NONE, origin=OWNED), snapshot([], 0, past=NONE, origin=OWNED)
+
+
+def first_of(before, has_log):
+    """What may stand under a snapshot's path before a server listens: what stood there, and the file of the start."""
+    held = (TWO, 8) if before == SAVED else ([], 0)
+    return before, snapshot(*held, past=NONE, origin=PAIRED if has_log else OWNED)
+
+
+def saved_of(has_log):
+    """What a server has saved: both batches, which may be folded."""
+    origin = PAIRED if has_log else OWNED
+    folded = ([(7, 1, 1, 5), (8, 1, 1, 3)], [(0, 0, 8)])
+    return snapshot(TWO, 8, past=NONE, origin=origin), snapshot([], 8, past=folded, origin=origin)
+
+
 # The snapshot that a server starts with, whether it has a log, and above how many cells it folds.
 STARTS = {
     "serve": (None, False, 0),
@@ -298,29 +313,39 @@ def ask_for_stats(path):
     return "no answer to a Stats"
 
 
+def held_in(path):
+    """The bytes of a snapshot, told by the book of the examples, if it has one; None where there is none."""
+    if not os.path.exists(path):
+        return None
+    with open(path, "rb") as file:
+        held = file.read()
+    try:
+        return with_book(held)
+    except FirstFault as fault:
+        return f"{fault}: {held}"
+
+
 def judge_end(process, saved, ends, held):
-    """What is wrong with the end of a server, or with what it saved, or None."""
+    """What is wrong with the end of a server, or with its file, which is to be one of these, or None."""
     output, error = process.communicate(timeout=SECONDS)
     ended = Ended(output, error, process.returncode)
     if ended not in ends:
         return ended
-    found = None
-    if os.path.exists(saved):
-        with open(saved, "rb") as file:
-            found = file.read()
-    return None if found == held or held == SAVED and found == FOLDED else found
+    found = held_in(saved)
+    return None if found in held else found
 
 
 NO_MEMORY = Ended(b"", b"hhm: memory\n", 5)
 STOPPED = Ended(b"stopped batches 2 total 8\n", b"", 0)
 
 
-def talk_to_server(process, path, saved, before):
+def talk_to_server(process, path, saved, start):
     """What is wrong with the answers and the end of a server that listens, or None."""
     is_served, wrong = ask_until_answered(path, ASKS, REPLIES)
     if not is_served:
-        # A thread that there was no memory for couldn't be started: it is told, and nothing is saved.
-        return judge_end(process, saved, [NO_MEMORY, Ended(b"", b"hhm: no worker\n", 4)], before)
+        # A thread that there was no memory for couldn't be started: it is told, and no batch is saved.
+        ends = [NO_MEMORY, Ended(b"", b"hhm: no worker\n", 4)]
+        return judge_end(process, saved, ends, first_of(start[0], start[1])[1:])
     wrong = wrong or ask_for_stats(path)
     if wrong:
         return wrong
@@ -330,7 +355,7 @@ def talk_to_server(process, path, saved, before):
     is_served, wrong = ask_until_answered(path, STOP, [STOPPING])
     if wrong or not is_served:
         return wrong or "no answer to a Stop"
-    return judge_end(process, saved, [NO_MEMORY, STOPPED], SAVED)
+    return judge_end(process, saved, [NO_MEMORY, STOPPED], saved_of(start[1]))
 
 
 def talk_to_faulty_server(process, path, saved, line):
@@ -346,27 +371,29 @@ def talk_to_faulty_server(process, path, saved, line):
     if not is_refused:
         faults = [b"file: Write", b"file: Sync", b"file: Rename", b"output failed after %d bytes" % len(line)]
         ends += [Ended(b"", b"hhm: %s\n" % fault, 4) for fault in faults]
-    return judge_end(process, saved, ends, SAVED)
+    return judge_end(process, saved, ends, saved_of(False))
 
 
-def talk_to_slow_server(process, path, saved):
+def talk_to_slow_server(process, path, saved, has_log):
     """The same of a server one of whose reads or writes moves a single byte."""
     answer = talk(path, ASKS) + talk(path, STOP)
-    return judge_end(process, saved, [STOPPED], SAVED) if answer == b"".join(REPLIES) + STOPPING else answer
+    return judge_end(process, saved, [STOPPED], saved_of(has_log)) if answer == b"".join(REPLIES) + STOPPING else answer
 
 
-def judge_server(kind, process, path, saved, before):
+def judge_server(kind, process, path, saved, start):
     """What is wrong with a server of whose calls one is refused, or None."""
     line = process.stdout.readline()
     if line != f"listening unix {path}\n".encode():
-        early = [Ended(b"", b"hhm: snapshot: Read\n", 4), Ended(b"", b"hhm: output failed after 0 bytes\n", 4)]
+        told = [b"snapshot: Read", b"output failed after 0 bytes", b"file: Write", b"file: Sync",
+                b"file: Rename"]
+        early = [Ended(b"", b"hhm: %s\n" % fault, 4) for fault in told]
         ends = {"growth": [NO_MEMORY], "fault": early, "short": []}
-        return line or judge_end(process, saved, ends[kind], before)
+        return line or judge_end(process, saved, ends[kind], first_of(start[0], start[1]))
     if kind == "growth":
-        return talk_to_server(process, path, saved, before)
+        return talk_to_server(process, path, saved, start)
     if kind == "fault":
         return talk_to_faulty_server(process, path, saved, line)
-    return talk_to_slow_server(process, path, saved)
+    return talk_to_slow_server(process, path, saved, start[1])
 
 
 def served_run(program, folder, start, kind, error, at):
@@ -384,7 +411,7 @@ def served_run(program, folder, start, kind, error, at):
     words += ["--fold-above", str(fold_above), *(["--log", f"{saved}.log"] if has_log else [])]
     process = subprocess.Popen(words, stdout=subprocess.PIPE, stderr=subprocess.PIPE, **refusing.how)
     try:
-        wrong = judge_server(kind, process, path, saved, before)
+        wrong = judge_server(kind, process, path, saved, start)
     except subprocess.TimeoutExpired:
         wrong = "it didn't end"
     finally:
@@ -399,13 +426,14 @@ def names_run(program, folder, at):
     The save is a failed one, and the file is the new one all the same: it had its name before the folder was synced.
     """
     path, saved = (os.path.join(folder, f"{name} {at}") for name in ("socket", "snap"))
+    with open(saved, "wb") as file:
+        file.write(EMPTY)
     refusing = Refusing("names", EIO, at)
     words = [program, "serve", "--unix", path, "--workers", "1", "--snapshot", saved, *SMALL]
     with subprocess.Popen(words, stdout=subprocess.PIPE, stderr=subprocess.PIPE, **refusing.how) as process:
         process.stdout.readline()
         answer = talk(path, ASKS)
-        with open(saved, "rb") as file:
-            held = file.read()
+        held = held_in(saved)
         stopping = talk(path, STOP)
         output, error = process.communicate(timeout=SECONDS)
     told = Ended(output, error, process.returncode)
@@ -416,8 +444,18 @@ def names_run(program, folder, at):
     return found, held, stopping
 
 
+def first_name_run(program, folder):
+    """What was wrong with a first start, the sync of whose folder is refused: it doesn't listen."""
+    path, saved = (os.path.join(folder, f"first {name}") for name in ("socket", "snap"))
+    words = [program, "serve", "--unix", path, "--snapshot", saved, *SMALL]
+    done = subprocess.run(words, capture_output=True, timeout=SECONDS, **Refusing("names", EIO, 1).how)
+    found = Ended(done.stdout, done.stderr, done.returncode), held_in(saved)
+    return None if found == (Ended(b"", b"hhm: file: Rename\n", 4), EMPTY) else found
+
+
 def names(program, folder):
-    """The syncs of a folder: behind a save that a client asked for, and behind the last one."""
+    """The syncs of a folder: at a first start, behind a save that a client asked for, and behind the last one."""
+    yield "the sync of a folder at the first start", first_name_run(program, folder)
     for at in (1, 2):
         yield f"the sync of a folder, number {at}", names_run(program, folder, at)
 

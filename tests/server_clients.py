@@ -22,7 +22,8 @@ import program
 import server
 from server import SMALL, WAIT, Server, accepted, check, put_frame, refused, text
 from server_faults import END_WAIT, SAVE, STATUS, STOP, STOPPING, asked, counts, ends_soon, in_folder, is_silent
-from server_faults import received
+from server_faults import in_snap, received
+from snap_bytes import OWNED
 
 BAD_KIND = struct.pack(">IB", 0, 14)
 EXPORT = struct.pack(">IB", 0, 5)
@@ -431,7 +432,7 @@ class Book:
     def file(self, length):
         """The snapshot of the first batches."""
         batches = [(7, number, [(0, 0, self.counts[number])]) for number in range(length)]
-        return program.snapshot(batches, self.total(length), limit=10**6, most=10**4, past=program.NONE)
+        return program.snapshot(batches, self.total(length), limit=10**6, most=10**4, past=program.NONE, origin=OWNED)
 
 
 def put_until_killed(at, book, seed):
@@ -473,15 +474,13 @@ def kills_lose_what_was_not_saved_alone(kills):
                         check(f"kill {seed}: {number} sent again", reply, accepted(number, book.total(number + 1)))
                 check(f"kill {seed}: the book", asked(link, STATUS, 21), counts(len(book.counts), book.total()))
             put_until_killed(at, book, seed)
-        held = server.content(path) if os.path.exists(path) else None
+        held = in_snap(path)
         whole = [length for length in range(book.saved, len(book.counts) + 1) if held == book.file(length)]
-        is_whole = len(whole) == 1 or (held is None and book.saved == 0)
-        check(f"kill {seed}: a snapshot of a front, with all that was saved", is_whole, True)
+        check(f"kill {seed}: a snapshot of a front, with all that was saved", len(whole), 1)
         book.saved = whole[0] if whole else 0
         told = subprocess.run([server.PROGRAM, "check", path], capture_output=True, text=True, timeout=WAIT)
-        if held is not None:
-            line = f"rows 3 cols 3 shards 2 batches {book.saved} total {book.total(book.saved)} "
-            check(f"kill {seed}: check", told.stdout.startswith(line), True)
+        line = f"rows 3 cols 3 shards 2 batches {book.saved} total {book.total(book.saved)} "
+        check(f"kill {seed}: check", told.stdout.startswith(line), True)
 
 
 def all_are_tried():

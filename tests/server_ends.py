@@ -23,7 +23,9 @@ from array import array
 import program
 import server
 from server import SMALL, WAIT, Server, accepted, check, put_frame, refused, text
-from server_faults import FOLD, SAVE, STATUS, STOP, STOPPING, asked, counts, in_folder, is_silent, received, run, write
+from server_faults import FOLD, SAVE, STATUS, STOP, STOPPING, asked, counts, in_folder, in_snap, is_silent, received
+from server_faults import run, write
+from snap_bytes import OWNED
 
 from hhm_client import Arrays  # server has its folder on the path
 
@@ -86,8 +88,8 @@ def a_drain_ends_sessions(unix):
             for link in waiting:
                 link.close()
     batches = [(7, n, [(0, 0, 1)]) for n in range(len(answers))]
-    saved = program.snapshot(batches, len(answers), past=program.NONE, limit=1000, most=100)
-    check(f"{name}: the snapshot", server.content(path), saved)
+    saved = program.snapshot(batches, len(answers), past=program.NONE, limit=1000, most=100, origin=OWNED)
+    check(f"{name}: the snapshot", in_snap(path), saved)
     os.remove(path)
 
 
@@ -303,6 +305,7 @@ def failed_saves_are_told():
     """The step that failed, and what the system said: a file that would be too large, and a place that is taken."""
 
     def a_full_folder(path, _):
+        os.remove(path)
         os.makedirs(os.path.join(path, "full"))
 
     for name, fail, error in [

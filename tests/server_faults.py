@@ -28,8 +28,12 @@ import time
 
 import program
 import server
+import snap_bytes
 from server import SMALL, WAIT, Server, accepted, check, put_frame, refused, text
+from snap_bytes import OWNED
 
+# A snapshot of one batch, of the book of the examples; no log goes with it.
+ONE = program.snapshot([(7, 1, [(0, 0, 5)])], 5, past=program.NONE, origin=OWNED)
 # A user without processes, and a group that it isn't in.
 OTHER = 54321
 GROUP = 54322
@@ -49,6 +53,12 @@ def counts(batches, total):
 
 def in_folder(name):
     return os.path.join(server.FOLDER, name)
+
+
+def in_snap(path):
+    """The bytes of a snapshot, told by the book of the examples, if it has one: which one a server draws can't be known.
+    """
+    return snap_bytes.with_book(server.content(path))
 
 
 def run(words, **how):
@@ -134,9 +144,8 @@ def saves_fail(kind, fail):
         with at.link() as link:
             check(f"{kind}: put", asked(link, put_frame(7, 1, text(5)), 21), accepted(0, 5))
             check(f"{kind}: saved", asked(link, SAVE, 13), struct.pack(">IBQ", 8, 0x86, 1))
-            with open(path, "rb") as file:
-                before = file.read()
-            check(f"{kind}: the file", before, program.snapshot([(7, 1, [(0, 0, 5)])], 5, past=program.NONE))
+            before = server.content(path)
+            check(f"{kind}: the file", in_snap(path), ONE)
             fail(path, at.process)
             check(f"{kind}: put more", asked(link, put_frame(8, 1, text(3)), 21), accepted(1, 8))
             check(f"{kind}: not saved", asked(link, SAVE, 15), refused(42))
@@ -180,7 +189,7 @@ def refuse_calls(*numbers):
 
 def no_sync_is_made():
     """A file that can't be synced isn't renamed. Tried where calls may be refused."""
-    path, before = in_folder("Sync.snap"), program.snapshot([(7, 1, [(0, 0, 5)])], 5, past=program.NONE)
+    path, before = in_folder("Sync.snap"), ONE
     fsync = 74
     tried = subprocess.run(["true"], preexec_fn=lambda: refuse_calls(fsync) or os._exit(1))
     if platform.machine() != "x86_64" or tried.returncode != 0:
@@ -213,8 +222,7 @@ def saves_beside(name, leave, is_kept):
         with at.link() as link:
             check(f"{name}: put", asked(link, put_frame(7, 1, text(5)), 21), accepted(0, 5))
             check(f"{name}: saved", asked(link, SAVE, 13), struct.pack(">IBQ", 8, 0x86, 1))
-            saved = program.snapshot([(7, 1, [(0, 0, 5)])], 5, past=program.NONE)
-            check(f"{name}: the file", server.content(path), saved)
+            check(f"{name}: the file", in_snap(path), ONE)
             check(f"{name}: it is a plain one", stat.S_ISREG(os.lstat(path).st_mode), True)
             left = ["other", "snap", "snap.lock"] if is_kept else ["snap", "snap.lock"]
             check(f"{name}: all files", sorted(os.listdir(folder)), left)
@@ -256,6 +264,7 @@ def no_plain_file_is_told():
         check(f"{path} as a snapshot", run([*words, path]), ("", "hhm: file: OpenFailed\n", 4))
     path = in_folder("later")
     with Server([*SMALL, "--snapshot", path], tcp=False) as at:
+        os.remove(path)
         os.mkfifo(path)
         with at.link() as link:
             check("a FIFO later: not saved", asked(link, SAVE, 15), refused(42))
@@ -320,8 +329,8 @@ def owner_and_mode_are_kept():
     save_over("a group of less than all", (OTHER, GROUP, 0o604), (OTHER, OTHER, 0o604), OTHER)
 
 
-def a_link_as_a_snapshot_is_replaced():
-    """What a link leads to is read and stays, and the save takes the link's place, with the owner and mode of that."""
+def a_link_as_a_snapshot_stays():
+    """A link leads to the snapshot: that is read and replaced by the save, and keeps its mode. The link stays."""
     path, held = in_folder("link.snap"), in_folder("led to")
     before = program.snapshot([(7, 1, [(0, 0, 5)])], 5, past=program.NONE)
     write(held, before)
@@ -332,11 +341,10 @@ def a_link_as_a_snapshot_is_replaced():
             check("a link: put", asked(link, put_frame(8, 1, text(3)), 21), accepted(1, 8))
             check("a link: stop", asked(link, STOP, 5), STOPPING)
         at.ends("a link", 2, 8)
-    check("a link: what it led to", server.content(held), before)
-    check("a link: a plain file now", stat.S_ISREG(os.lstat(path).st_mode), True)
-    check("a link: the mode", belongs(path)[2], oct(0o640))
-    after = program.snapshot([(7, 1, [(0, 0, 5)]), (8, 1, [(0, 0, 3)])], 8, past=program.NONE)
-    check("a link: the file", server.content(path), after)
+    check("a link: still one", os.readlink(path), held)
+    check("a link: the mode", belongs(held)[2], oct(0o640))
+    after = program.snapshot([(7, 1, [(0, 0, 5)]), (8, 1, [(0, 0, 3)])], 8, past=program.NONE, origin=OWNED)
+    check("a link: the file", in_snap(held), after)
 
 
 def flipped_bits_are_told():
@@ -385,8 +393,7 @@ def the_last_line_is_not_taken():
     process.stderr.close()
     check("the last line", (error, status), (f"hhm: output failed after {len(line)} bytes\n", 4))
     check("the path is gone", os.path.exists(unix), False)
-    with open(path, "rb") as file:
-        check("the snapshot", file.read(), program.snapshot([(7, 1, [(0, 0, 5)])], 5, past=program.NONE))
+    check("the snapshot", in_snap(path), ONE)
 
 
 def memory_is_refused():
@@ -472,6 +479,8 @@ def no_thread_is_started():
     folder = folder_of_other("other")
     own, unix, path = (os.path.join(folder, name) for name in ["hhm", "socket", "snapshot"])
 
+    first = program.snapshot([], 0, past=program.NONE, origin=OWNED)
+    write(path, first)
     # Its own thread counts. That it may have one more says nothing of a user with other processes.
     for most in [1, 2] if os.getuid() == 0 else [1]:
         for words in [["--unix", unix], ["--tcp", "127.0.0.1:0", "--unix", unix]]:
@@ -479,7 +488,8 @@ def no_thread_is_started():
                                    timeout=WAIT, preexec_fn=lambda most=most: as_other(most))
             check(f"{most} threads, {words}", (ended.stderr, ended.returncode), ("hhm: no worker\n", 4))
             check("its lines", ended.stdout.splitlines()[len(words) // 2 - 1 :], [f"listening unix {unix}"])
-            check("the path is gone and nothing saved", sorted(os.listdir(folder)), ["hhm", "snapshot.lock"])
+            check("the path is gone", sorted(os.listdir(folder)), ["hhm", "snapshot", "snapshot.lock"])
+            check("the file of the first start stays", server.content(path), first)
 
 
 def descriptors_of(process):
@@ -570,11 +580,7 @@ def ends_soon(at, name, path):
     took = time.monotonic() - begun
     check(f"{name}: the end", (output, error, at.process.returncode), ("stopped batches 1 total 5\n", "", 0))
     check(f"{name}: soon", took < END_WAIT, True)
-    saved = None
-    if os.path.exists(path):
-        with open(path, "rb") as file:
-            saved = file.read()
-    check(f"{name}: the snapshot", saved, program.snapshot([(7, 1, [(0, 0, 5)])], 5, past=program.NONE))
+    check(f"{name}: the snapshot", in_snap(path), ONE)
 
 
 def replace_by_file(path):
@@ -688,7 +694,7 @@ def all_are_tried():
     what_stands_beside_is_not_written()
     no_plain_file_is_told()
     owner_and_mode_are_kept()
-    a_link_as_a_snapshot_is_replaced()
+    a_link_as_a_snapshot_stays()
     flipped_bits_are_told()
     no_output_is_taken()
     the_last_line_is_not_taken()

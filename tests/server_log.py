@@ -12,7 +12,6 @@ import os
 import shutil
 import signal
 import socket
-import stat
 import struct
 import subprocess
 import sys
@@ -21,10 +20,10 @@ import traceback
 import log_bytes
 import program
 import server
-from log_bytes import Log, block, entry_of, fields, head, log, pages_of
+from log_bytes import Log, block, entry_of, fields, head, log, pages_of, with_book
 from server import SMALL, WAIT, Server, accepted, check, content, put_frame, refused, text
-from server_faults import OTHER, SAVE, STATUS, STOP, STOPPING, asked, counts, in_folder, write
-from snap_bytes import OWNED, with_byte
+from server_faults import OTHER, SAVE, STATUS, STOP, STOPPING, asked, counts, in_folder, in_snap, write
+from snap_bytes import OWNED, PAIRED, with_byte
 
 FIVE, THREE, TWO = (7, 1, [(0, 0, 5)]), (8, 1, [(0, 0, 3)]), (9, 1, [(0, 0, 2)])
 STORED = struct.pack(">IB", 0, 9)
@@ -57,9 +56,9 @@ def stopped(batches, total):
     return f"stopped batches {batches} total {total}\n", "", 0
 
 
-def snapshot_of(batches):
-    """The bytes of a snapshot in which nothing is folded."""
-    return program.snapshot(batches, sum(entry_of(it)[3] for it in batches), past=program.NONE)
+def snapshot_of(batches, origin=PAIRED):
+    """The bytes of a snapshot in which nothing is folded, and with which a log goes."""
+    return program.snapshot(batches, sum(entry_of(it)[3] for it in batches), past=program.NONE, origin=origin)
 
 
 def kill(at, number=signal.SIGKILL):
@@ -68,9 +67,13 @@ def kill(at, number=signal.SIGKILL):
 
 
 def in_log(path):
-    """The bytes of a log without the zeros that are written ahead: up to the page behind its last block."""
+    """The bytes of a log without the zeros that are written ahead: up to the page behind its last block.
+
+    They are told by the book of the examples, if the log has one: which one a server draws can't be known.
+    """
     held = content(path)
-    return held[: PAGE * Log(held).whole()]
+    held = held[: -(-len(held.rstrip(b"\0")) // PAGE) * PAGE]
+    return with_book(held)[: PAGE * Log(held).whole()]
 
 
 def two_are_logged(at, log_path):
@@ -81,9 +84,8 @@ def two_are_logged(at, log_path):
         check("the log of the first", in_log(log_path), log([[FIVE]]))
         check("the second", asked(link, put_of(THREE), 21), accepted(1, 8))
         check("stored", asked(link, STORED, 21), counts(2, 8))
-    held = content(log_path)
-    check("the log of both", held[: 3 * PAGE], log([[FIVE], [THREE]]))
-    check("zeros behind it", any(held[3 * PAGE :]), False)
+    check("the log of both", in_log(log_path), log([[FIVE], [THREE]]))
+    check("zeros behind it", any(content(log_path)[3 * PAGE :]), False)
 
 
 def what_was_accepted_outlasts_a_kill():
@@ -93,12 +95,13 @@ def what_was_accepted_outlasts_a_kill():
         two_are_logged(at, path)
         shutil.copy(path, path + " copied")
         kill(at)
-    check("no snapshot was written", os.path.exists(snap), False)
+    check("the snapshot is that of the start", in_snap(snap), snapshot_of([]))
+    os.rename(snap, snap + " first")
     for name in [path, path + " copied"]:
         lines = "rows 3 cols 3 shards 2 batches 2 total 8 entries 1\nlog first 0 batches 2 pages 3 rest 0\n"
+        shutil.copy(snap + " first", snap)
         check("check", hhm("check", snap, "--log", name), (lines, "", 0))
         goes_on_after_a_kill(name, snap)
-        os.remove(snap)
 
 
 def goes_on_after_a_kill(path, snap):
@@ -120,13 +123,13 @@ def goes_on_after_a_kill(path, snap):
     check("check behind a save", hhm("check", snap, "--log", path), (lines, "", 0))
     check("a start behind a save", started("--snapshot", snap, "--log", path), stopped(3, 10))
     after = snapshot_of([FIVE, THREE, TWO])
-    check("what that saved", content(snap), after)
+    check("what that saved", in_snap(snap), after)
     check("the log behind the last save", in_log(path), head((*BOTH, entry_of(TWO))))
 
 
 def begun_anew(path, snap):
     """What stands after a save of both."""
-    check("the snapshot", content(snap), snapshot_of([FIVE, THREE]))
+    check("the snapshot", in_snap(snap), snapshot_of([FIVE, THREE]))
     check("the log is begun anew", in_log(path), head(BOTH))
     check("no other file is left", os.path.exists(path + ".new") or os.path.exists(snap + ".new"), False)
     lines = "rows 3 cols 3 shards 2 batches 2 total 8 entries 1\nlog first 2 batches 0 pages 1 rest 0\n"
@@ -194,7 +197,7 @@ def a_stop_saves_and_begins_the_log_anew():
                 check("stop", asked(link, STOP, 5), STOPPING)
             at.ends("with both", n + 1, total)
         batches = [(7, k, [(0, 0, k + 1)]) for k in range(n + 1)]
-        check("the snapshot at the end", content(snap), snapshot_of(batches))
+        check("the snapshot at the end", in_snap(snap), snapshot_of(batches))
         check("the log at the end", in_log(path), head([entry_of(batch) for batch in batches]))
     left = [name for name in os.listdir(server.FOLDER) if name.startswith("ended") and "new" in name]
     check("what is left", left, [])
@@ -354,7 +357,7 @@ APART = [
     (None, log([[FIVE]], setup=log_bytes.Setup(limit=101)), "settings: LogDiffers", 2),
     (None, log([[FIVE]], setup=log_bytes.Setup(cuts=(2, 5))), "settings: LogDiffers", 2),
     (None, log([[FIVE]], setup=log_bytes.Setup(rows=4)), "settings: LogDiffers", 2),
-    ([FIVE], log([[FIVE]], setup=log_bytes.Setup(limit=101)), "settings: LogDiffers", 2),
+    ([FIVE], log([[FIVE]], setup=log_bytes.Setup(rows=4)), "settings: LogDiffers", 2),
 ]
 
 
@@ -390,8 +393,8 @@ def a_lost_snapshot_is_a_gap():
 def logs_beside_longer_and_shorter_snapshots():
     """A log that has less than the snapshot is begun anew; of what both have each counts once."""
     path, snap = in_folder("beside.log"), in_folder("beside.snap")
-    two = snapshot_of([FIVE, THREE])
-    folded = program.snapshot([THREE], 8, past=program.FIVE)
+    two = snapshot_of([FIVE, THREE], OWNED)
+    folded = program.snapshot([THREE], 8, past=program.FIVE, origin=OWNED)
     for held, first in [(None, 2), (log([[FIVE]]), 2), (log([[FIVE, THREE]]), 0), (head(BOTH), 2),
                         (log([[THREE]], [entry_of(FIVE)]), 1)]:  # fmt: skip
         for before in [two, folded]:
@@ -425,42 +428,42 @@ def a_fold_between_two_starts():
     check("a start on both", started("--snapshot", snap, "--log", path), stopped(3, 10))
 
 
-def an_old_log_goes_on():
-    """Blocks are added to a log of version 1, whose head stays, and a start reads all; the next log is of version 2."""
+def an_old_log_is_begun_anew():
+    """A start makes a log of version 2 of one of version 1, with all batches, before any is added."""
     path, snap = in_folder("old.log"), in_folder("old.snap")
-    old = log([[FIVE]], origin=None)
-    write(path, old)
+    write(path, log([[FIVE]], origin=None))
     with Server([*SMALL, "--log", path], tcp=False) as at:
+        check("an old log: begun anew", in_log(path), log([[FIVE]]))
         with at.link() as link:
             check("an old log: its batch again", asked(link, put_of(FIVE), 21), accepted(0, 5))
             check("an old log: put", asked(link, put_of(THREE), 21), accepted(1, 8))
         kill(at)
-    check("an old log: with a block more", in_log(path), old + block(1, [THREE]))
+    check("an old log: with a block more", in_log(path), log([[FIVE], [THREE]]))
     lines = log_bytes.check_line([FIVE, THREE]) + "\nlog first 0 batches 2 pages 3 rest 0\n"
     check("an old log: check", hhm("check", snap, "--log", path), (lines, "", 0))
     check("an old log: a start", started("--log", path), stopped(2, 8))
-    check("an old log: as before", in_log(path), old + block(1, [THREE]))
+    check("an old log: as before", in_log(path), log([[FIVE], [THREE]]))
     check("an old log: a save", started("--snapshot", snap, "--log", path), stopped(2, 8))
-    check("an old log: begun anew", in_log(path), head(BOTH))
-    check("an old log: what was saved", content(snap), snapshot_of([FIVE, THREE]))
+    check("an old log: begun behind the save", in_log(path), head(BOTH))
+    check("an old log: what was saved", in_snap(snap), snapshot_of([FIVE, THREE]))
 
 
 def files_of_all_versions_are_saved_in_the_last():
     """A server loads a snapshot of each version, beside a log of version 1 too, and saves it in version 4."""
-    all_folded = program.snapshot([], 5, past=program.FIVE)
-    files = [(program.snapshot([FIVE], 5), snapshot_of([FIVE]))]
-    for version in (2, 3):
-        files.append((program.snapshot([FIVE], 5, past=program.NONE, version=version), snapshot_of([FIVE])))
+    all_folded, five = program.snapshot([], 5, past=program.FIVE, origin=OWNED), snapshot_of([FIVE], OWNED)
+    files = [(program.snapshot([FIVE], 5), five)]
+    for version in (2, 3, 4):
+        files.append((program.snapshot([FIVE], 5, past=program.NONE, version=version), five))
         files.append((program.snapshot([], 5, past=program.FIVE, version=version), all_folded))
-    # So far a server doesn't keep whose a file is.
-    files.append((program.snapshot([FIVE], 5, past=program.NONE, origin=OWNED), snapshot_of([FIVE])))
+    files.append((five, five))
     for n, (held, anew) in enumerate(files):
         path, snap, name = in_folder(f"version {n}.log"), in_folder(f"version {n}.snap"), f"file {n}"
         write(snap, held)
         with Server([*SMALL, "--snapshot", snap], tcp=False) as at:
+            check(f"{name}: at the start", in_snap(snap), anew)
             with at.link() as link:
                 check(f"{name}: save", asked(link, SAVE, 13), saved(1))
-            check(f"{name}: saved anew", content(snap), anew)
+            check(f"{name}: saved anew", in_snap(snap), anew)
             kill(at)
         write(snap, held)
         write(path, log([[THREE]], [entry_of(FIVE)], origin=None))
@@ -469,6 +472,7 @@ def files_of_all_versions_are_saved_in_the_last():
         both = program.Snapshot(content(snap))
         check(f"{name}: both", both.line(), log_bytes.check_line([FIVE, THREE]))
         check(f"{name}: its version", both.version, 4)
+        check(f"{name}: a log goes with it", both.origin.log, 1)
 
 
 def a_second_server_is_told():
@@ -490,9 +494,11 @@ def a_second_server_is_told():
 
 
 def a_log_has_one_server_under_all_its_names():
-    """A link, a second name, and a lock's file that was removed: no second server writes to the log."""
+    """A link, a second name, and a lock's file that was removed: no second server writes to the log, though it is one that
+    the start began anew."""
     path, snap = in_folder("named.log"), in_folder("named.snap")
     busy = ("", "hhm: log: Busy\n", 4)
+    write(path, log([], origin=None))
     with Server([*SMALL, "--log", path, "--snapshot", snap], tcp=False) as at:
         with at.link() as link:
             check("named: put", asked(link, put_of(FIVE), 21), accepted(0, 5))
@@ -592,7 +598,7 @@ def what_is_no_file_is_told():
 
 
 def links_are_followed_once():
-    """A link as a log leads to it. The log that is begun anew takes the link's place, and what it led to stays."""
+    """A link as a log leads to it, and stays: the log that is begun anew takes the name of what it leads to."""
     held, path, snap = in_folder("led to.log"), in_folder("link.log"), in_folder("link.snap")
     write(held, log([[FIVE]]))
     os.symlink(held, path)
@@ -603,8 +609,8 @@ def links_are_followed_once():
             check("a link: save", asked(link, SAVE, 13), saved(2))
             check("a link: put more", asked(link, put_of(TWO), 21), accepted(2, 10))
         kill(at)
-    check("a link: a plain file now", stat.S_ISREG(os.lstat(path).st_mode), True)
-    check("a link: what it led to", in_log(held), log([[FIVE], [THREE]]))
+    check("a link: still one", os.path.islink(path), True)
+    check("a link: what it leads to", in_log(held), log([[TWO]], before=BOTH))
     check("a link: all", started("--snapshot", snap, "--log", path), stopped(3, 10))
     nothing = in_folder("link to nothing")
     os.symlink(in_folder("nothing"), nothing)
@@ -651,8 +657,11 @@ def a_new_log_has_the_access_of_the_old():
     """The log that is begun anew has the mode of the one whose place it takes; the first has what the umask leaves."""
     path, snap = in_folder("mode.log"), in_folder("mode.snap")
     for mode in [0o600, 0o640, 0o664]:
-        write(path, log([[FIVE]]))
+        write(path, log([[FIVE]], origin=None))
         os.chmod(path, mode)
+        check(f"mode {mode:o}: an old one", started("--log", path), stopped(1, 5))
+        check(f"mode {mode:o}: kept by a start", (in_log(path), os.stat(path).st_mode & 0o777), (log([[FIVE]]), mode))
+        write(path, log([[FIVE]]))
         check(f"mode {mode:o}", started("--snapshot", snap, "--log", path), stopped(1, 5))
         check(f"mode {mode:o}: kept", (in_log(path), os.stat(path).st_mode & 0o777), (head([entry_of(FIVE)]), mode))
         os.remove(snap)
@@ -704,7 +713,7 @@ def all_are_tried():
         a_lost_snapshot_is_a_gap,
         logs_beside_longer_and_shorter_snapshots,
         a_fold_between_two_starts,
-        an_old_log_goes_on,
+        an_old_log_is_begun_anew,
         files_of_all_versions_are_saved_in_the_last,
         a_second_server_is_told,
         a_log_has_one_server_under_all_its_names,

@@ -22,11 +22,11 @@ import time
 import program
 import server
 from server import SMALL, WAIT, Server, accepted, check, content, put_frame, refused, text
-from server_faults import GROUP, OTHER, SAVE, STOP, STOPPING, asked, belongs, in_folder, write
+from server_faults import GROUP, ONE, OTHER, SAVE, STOP, STOPPING, asked, belongs, in_folder, write
+from snap_bytes import OWNED
 
-ONE = program.snapshot([(7, 1, [(0, 0, 5)])], 5, past=program.NONE)
-ONE_FOLDED = program.snapshot([], 5, past=program.FIVE)
-TWO = program.snapshot([(7, 1, [(0, 0, 5)]), (8, 1, [(0, 0, 3)])], 8, past=program.NONE)
+ONE_FOLDED = program.snapshot([], 5, past=program.FIVE, origin=OWNED)
+TWO = program.snapshot([(7, 1, [(0, 0, 5)]), (8, 1, [(0, 0, 3)])], 8, past=program.NONE, origin=OWNED)
 SAVED_TWO = struct.pack(">IBQ", 8, 0x86, 2)
 BUSY = ("", "hhm: file: Busy\n", 4)
 CREATE = ("", "hhm: file: Create\n", 4)

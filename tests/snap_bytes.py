@@ -60,6 +60,8 @@ UNKNOWN = Origin()
 # The book of the examples of docs/FORMATS.md.
 BOOK = 0x00112233445566778899AABBCCDDEEFF
 OWNED = Origin(BOOK)
+# The same, and a log goes with the snapshot.
+PAIRED = OWNED._replace(log=1)
 
 
 def identity(origin):
@@ -114,7 +116,7 @@ class FirstFault(Exception):
 class Snapshot:
     """What docs/FORMATS.md says of bytes, field after field: the line of `check`, or a `FirstFault`.
 
-    `fields` has the name of each field that was read, and where its bytes are.
+    `fields` has the name of each field that was read, and where its bytes are; `origin` says whose the file is.
     """
 
     def __init__(self, held):
@@ -161,13 +163,13 @@ class Snapshot:
             cut = setting("cut", cut + 1, 2**40)
         self.shards = setting("shards", 1, 64, 1)
         limit = setting("limit", 1, MOST)
-        self.most = setting("most", 1, 1_000_000)
+        self.most = setting("most", 1, 2**30 if self.version >= 4 else 1_000_000)
         self.count = setting("batches", 0, self.most)
         self.total = setting("total", 0, limit)
+        self.origin = UNKNOWN
         if self.version >= 4:
-            self.take("book", 16, lambda _: True)
-            self.take("window", 8, lambda _: True)
-            setting("log", 0, 1, 1)
+            book, window = self.take("book", 16, lambda _: True), self.take("window", 8, lambda _: True)
+            self.origin = Origin(book, window, setting("log", 0, 1, 1))
 
     def pair(self):
         client = self.take("client", 8, lambda _: True)
@@ -216,6 +218,23 @@ class Snapshot:
         )
 
 
+def with_book(held, book=BOOK):
+    """The bytes of a snapshot, which are judged as they are, with this book in place of the one that it has, if any.
+
+    So a file whose book was drawn at random is compared with bytes that are known.
+    """
+    found, parts, end = Snapshot(held), [], 0
+    if not found.origin.book:
+        return held
+    for name, place in found.fields:
+        if name == "checksum":
+            parts.append(held[end : place.start])
+            end = place.stop
+    at = dict(found.fields)["book"].start
+    parts[0] = parts[0][:at] + field(book, 16) + parts[0][at + 16 :]
+    return checked_parts(parts)
+
+
 def check_examples():
     """The example of docs/FORMATS.md in each version, and its checksums with other origins."""
     one = [(7, 1, [(0, 0, 5)])]
@@ -239,12 +258,15 @@ def check_examples():
         assert held == bytes.fromhex(wanted)
     for origin, checks in [
         (OWNED, "3864c250 96dd6b0d 11821650"),
-        (OWNED._replace(log=1), "ca0f4153 a12c3b5e 79b4082c"),
+        (PAIRED, "ca0f4153 a12c3b5e 79b4082c"),
         (UNKNOWN, "d38776cd 514e0200 be3bb496"),
     ]:
         held = snapshot(one, 5, past=NONE, origin=origin)
-        assert len(held) == 179
+        assert len(held) == 179 and Snapshot(held).origin == origin
         assert b"".join(held[at : at + 4] for at in (103, 123, 175)) == bytes.fromhex(checks)
+        assert with_book(held, 1 if origin.book else 0) == snapshot(
+            one, 5, past=NONE, origin=origin._replace(book=1 if origin.book else 0)
+        )
 
 
 check_examples()

@@ -4,6 +4,7 @@ be brought to say, as numbers of Stats that are chosen, or that it doesn't know 
 Puts of cells, cells, rows, statuses, ranges, tops and stats are answered, and saves; every other kind is refused.
 """
 import collections
+import socket
 import struct
 import threading
 
@@ -48,19 +49,45 @@ def knows_stats(hhm, what):
         return False
 
 
+def sizes_of(cells):
+    """What a server knows a batch by beside its numbers: how many cells it has, each place once, and their total."""
+    return len({cell[:2] for cell in cells}), sum(cell[2] for cell in cells)
+
+
+# The codes of refusals that end a session, of those that are given here.
+ENDING = (b"\0\x01", b"\0\x33")
+
+
 def frame(kind, body=b""):
     return struct.pack(">IB", len(body), kind) + body
 
 
 class StandIn(Peer):
-    """Listens at a Unix socket. `stats` is what it tells of itself, a dictionary or nothing where it knows no such kind;
-    `unknown` are further kinds that it doesn't know."""
+    """Listens at a Unix socket. `stats` is what it tells of itself, a dictionary, nothing where it knows no such kind,
+    or the code of a refusal; `unknown` are further kinds that it doesn't know."""
 
     def __init__(self, size=(1 << 32, 1 << 32), stats=None, unknown=(), name="stand-in"):
         self.name, self.size, self.stats, self.unknown = name, size, stats, set(unknown)
         self.cells, self.book, self.asked = {}, {}, collections.Counter()
         self.lock = threading.Lock()
         super().__init__()
+
+    def link(self):
+        """A connection without the client."""
+        link = socket.socket(socket.AF_UNIX)
+        link.connect(self.path)
+        return link
+
+    def begin_again(self, stats, count):
+        """Ends all connections, as a server that is killed, and goes on with the first so many of its batches."""
+        with self.lock:
+            pairs = list(self.book.items())[:count]
+            self.stats, self.cells, self.book = stats, {}, {}
+            for pair, (_, cells) in pairs:
+                self.take(pair, cells)
+            for link in self.links:
+                end(link)
+            self.links = []
 
     def meet(self, link):
         self.links.append(link)
@@ -73,7 +100,7 @@ class StandIn(Peer):
                     self.asked[request[4]] += 1
                     reply = self.reply(request[4], request[5:])
                 link.sendall(reply)
-                if reply[4] == 0xFF and reply[5:7] == b"\0\x33":
+                if reply[4] == 0xFF and reply[5:7] in ENDING:
                     break
         except OSError:
             pass
@@ -90,6 +117,8 @@ class StandIn(Peer):
         numbers = [number for number, in struct.iter_unpack(">Q", body[: len(body) // 8 * 8])]
         if kind in self.unknown or (kind == 12 and self.stats is None):
             return server.refused(51)
+        if kind == 12 and isinstance(self.stats, int):
+            return server.refused(self.stats)
         if kind == 8:
             return self.take(tuple(numbers[:2]), list(zip(*[iter(numbers[2:])] * 3)))
         if kind in (2, 3) and any(number >= most for number, most in zip(numbers, self.size)):
@@ -118,8 +147,9 @@ class StandIn(Peer):
     def take(self, pair, cells):
         if pair not in self.book:
             self.put(cells)
-            self.book[pair] = struct.pack(">QQ", len(self.book), self.total())
-        return frame(0x81, self.book[pair])
+            self.book[pair] = struct.pack(">QQ", len(self.book), self.total()), cells
+        reply, known = self.book[pair]
+        return frame(0x81, reply) if sizes_of(known) == sizes_of(cells) else server.refused(30)
 
     def range(self, bounds):
         first_row, last_row, first_col, last_col = bounds[:4]

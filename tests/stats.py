@@ -31,6 +31,7 @@ TIMED = {
     "uptime_seconds": r"\d+\.\d{3}", "resident_bytes": r"\d+", "processor_seconds_total": r"\d+\.\d{3}",
     "save_age_seconds": r"\d+\.\d{3}", "log_syncs_total": r"\d+", "log_room_pages": r"\d+",
 }
+BOOK = re.compile(r'^book\{id="[0-9a-f]{32}"\}$')
 ASK = frame(12)
 
 
@@ -78,6 +79,11 @@ def numbers_until(link, names, wanted):
     return until(lambda: [told(link)[name] for name in names], wanted)
 
 
+def names_in(lines):
+    """The names of these lines; that of the book without its identity, which is another one in each run."""
+    return [BOOK.sub("book", name) for name, _ in lines]
+
+
 def with_labels(name, key, values):
     return [f'{name}{{{key}="{value}"}}' for value in values]
 
@@ -92,7 +98,7 @@ def names_of(shards, count, is_logged, is_saved=False):
     """The names of all lines of a server, in their order."""
     return [
         "rows", "cols", "cuts", *with_labels("layer_cut_entries", "layer", range(1, count)), "shards", "limit",
-        "max_batches", "batches", "folded", "total", "version", "uptime_seconds", "resident_bytes",
+        "max_batches", "batches", "folded", "total", "version", "book", "uptime_seconds", "resident_bytes",
         "processor_seconds_total", "accepted_total", "repeats_total", "cells_total",
         *with_labels("refused_total", "code", CODES), *with_labels("frames_total", "kind", KINDS), "workers",
         "sessions_total", "sessions_open", "sessions_waiting", "received_bytes_total", "sent_bytes_total", "saves_total",
@@ -110,17 +116,17 @@ def an_empty_server_tells_its_setup():
     for more in [[], ["--log", log]]:
         with Server([*SMALL, *setup, *more], tcp=False) as at, at.link() as link:
             lines = lines_of(link)
-            check(f"empty {more}: names", [name for name, _ in lines], names_of(2, 3, bool(more)))
+            check(f"empty {more}: names", names_in(lines), names_of(2, 3, bool(more)))
             wanted = dict.fromkeys(names_of(2, 3, bool(more)), "0")
             wanted.update({
                 "rows": "3", "cols": "3", "cuts": "2", 'layer_cut_entries{layer="1"}': "2",
                 'layer_cut_entries{layer="2"}': "4", "shards": "2", "limit": "100", "max_batches": "10",
-                "version": "0.1.0", "workers": "3", "sessions_total": "1", "sessions_open": "1",
+                "version": "0.1.0", "book": "1", "workers": "3", "sessions_total": "1", "sessions_open": "1",
                 "received_bytes_total": "5", 'frames_total{kind="stats"}': "1",
             })
             if more:
                 wanted["log_pages"] = "1"
-            for name, value in lines:
+            for name, (_, value) in zip(names_in(lines), lines):
                 if name in TIMED:
                     check(f"empty {more}: {name} {value}", bool(re.fullmatch(TIMED[name], value)), True)
                 else:
@@ -145,7 +151,7 @@ def each_number_rises_as_it_should():
              {'refused_total{code="31"}': 1, 'frames_total{kind="put_cells"}': 1}),
             ("a full book", put_cells(7, 3, (1, 1, 1)), 0xFF,
              {'refused_total{code="32"}': 1, 'frames_total{kind="put_cells"}': 1}),
-            ("other dimensions", put(7, 4, b"4 3 0\n"), 0xFF,
+            ("a row more", put(7, 4, b"4 3 0\n"), 0xFF,
              {'refused_total{code="20"}': 1, 'frames_total{kind="put"}': 1}),
             ("a bad line", put(7, 4, b"3 3 1\n1 x 1\n"), 0xFF,
              {'refused_total{code="110"}': 1, 'frames_total{kind="put"}': 1}),
@@ -239,7 +245,7 @@ def saves_are_told():
             found = told(link)
             check("saved", [found[it] for it in ("saves_total", "failed_saves_total", "saved_batches", "batches")],
                   ["1", "0", "1", "2"])
-            check("its names", list(found), names_of(int(found["shards"]), 4, False, True))
+            check("its names", names_in(found.items()), names_of(int(found["shards"]), 4, False, True))
             check("its age", float(found["save_age_seconds"]) < 20, True)
             aside = folder + ".aside"
             os.rename(folder, aside)
@@ -349,7 +355,7 @@ def the_largest_reply():
     words = ["--rows", str(1 << 60), "--cols", str(1 << 60), "--shards", "64", "--cuts", "1,2,3,4,5,6,1099511627776"]
     with Server([*words, "--log", os.path.join(server.FOLDER, "large.log")], tcp=False) as at, at.link() as link:
         lines = lines_of(link)
-        check("the most names", [name for name, _ in lines], names_of(64, 8, True))
+        check("the most names", names_in(lines), names_of(64, 8, True))
         size = sum(len(f"{name} {value}\n") for name, value in lines)
         check(f"its size: {size}", size < 100_000, True)
 

@@ -58,18 +58,24 @@ struct hhm_client {
     pid_t process;
     /* How many replies are owed over it: from before the first byte of a request until the last one of its reply. */
     size_t owed;
+    /* Whether the server needn't be asked any more over it which book it has, and the identity of that, where it is
+       known. */
+    int knows_book;
+    char book_id[33];
     /* What was read of replies while requests were sent. */
     unsigned char early[EARLY];
     size_t early_count;
-    /* What the highest place of a reply to a put says of the accepted batches; zeros where nothing was put. */
+    /* What the highest place of a reply to a put says of the accepted batches, and the identity of its book; zeros
+       where nothing was put. */
     hhm_status seen;
+    char seen_id[33];
     /* That put, with its cells or its text in memory of this size; of kind 0 where there was none for it. */
     request last;
     void *memory;
     size_t size;
     hhm_books books;
     hhm_refusal refusal;
-    char message[224];
+    char message[320];
 };
 
 /* The body of a reply. One that may be of any length has memory of its own; a short one stands in `bytes`. */
@@ -163,16 +169,27 @@ static hhm_result refused(hhm_client *hhm, uint16_t code, uint64_t detail)
     return HHM_REFUSED;
 }
 
+/* Whether the server has another book than the one with what was put, by their identities. */
+static int has_other_book(const hhm_client *hhm)
+{
+    return hhm->seen_id[0] && hhm->book_id[0] && strcmp(hhm->seen_id, hhm->book_id);
+}
+
 static hhm_result went_back(hhm_client *hhm, hhm_status has)
 {
     hhm_status had = hhm->seen, none = {0, 0};
-    hhm_books books = {had, has};
-    hhm->books = books;
+    char books[100] = "";
+    if (has_other_book(hhm))
+        snprintf(books, sizeof books, "; its book was %s, and is %s", hhm->seen_id, hhm->book_id);
+    hhm->books.had = had;
+    hhm->books.has = has;
+    memcpy(hhm->books.had_id, hhm->seen_id, sizeof hhm->seen_id);
+    memcpy(hhm->books.has_id, hhm->book_id, sizeof hhm->book_id);
     hhm->seen = none;
     snprintf(hhm->message, sizeof hhm->message,
              "the server went back: it had %" PRIu64 " batches with total %" PRIu64
-             ", which aren't all there, and has %" PRIu64 " with total %" PRIu64,
-             had.batches, had.total, has.batches, has.total);
+             ", which aren't all there, and has %" PRIu64 " with total %" PRIu64 "%s",
+             had.batches, had.total, has.batches, has.total, books);
     return HHM_BOOK_WENT_BACK;
 }
 
@@ -249,6 +266,8 @@ static void let_go(hhm_client *hhm)
     hhm->link = -1;
     hhm->owed = 0;
     hhm->early_count = 0;
+    hhm->knows_book = 0;
+    hhm->book_id[0] = 0;
 }
 
 void hhm_close(hhm_client *hhm)
@@ -588,17 +607,68 @@ static hhm_result put_marker(hhm_client *hhm)
     return result;
 }
 
+/* The identity of the server's book that the text of a reply to a Stats has; no digit where it has none. */
+static void read_book(const char *text, char id[33])
+{
+    static const char front[] = "book{id=\"";
+    for (const char *line = text; line && *line; line = strchr(line, '\n') ? strchr(line, '\n') + 1 : NULL) {
+        const char *digits = line + sizeof front - 1;
+        if (strncmp(line, front, sizeof front - 1) || strspn(digits, "0123456789abcdef") != 32 ||
+            strncmp(digits + 32, "\"} ", 3))
+            continue;
+        memcpy(id, digits, 32);
+        id[32] = 0;
+        return;
+    }
+}
+
+/* Asks, once over a connection, which book the server has. One that doesn't know the question, or has no memory for its
+   answer, ends the connection: then there is none after this, which is no fault. */
+static hhm_result ask_book(hhm_client *hhm)
+{
+    request it = of_numbers(STATS, 0, 0, 0);
+    hhm_refusal before = hhm->refusal;
+    reply got;
+    if (hhm->knows_book)
+        return HHM_OK;
+    hhm->knows_book = 1;
+    if (send_request(hhm, &it))
+        return failed(hhm);
+    hhm_result result = read_reply(hhm, TOLD, &got);
+    if (result == HHM_REFUSED) {
+        hhm->refusal = before;
+        return HHM_OK;
+    }
+    if (result == HHM_OK) {
+        read_book(got.text, hhm->book_id);
+        free(got.text);
+    }
+    return result;
+}
+
+/* Makes a connection, over which the server is asked which book it has, or isn't. */
+static hhm_result make_link(hhm_client *hhm, int asks)
+{
+    hhm->link = hhm->port ? connect_tcp(hhm) : connect_unix(hhm);
+    hhm->process = getpid();
+    hhm->knows_book = !asks;
+    if (hhm->link < 0)
+        return failed(hhm);
+    return hhm->has_marker ? put_marker(hhm) : HHM_OK;
+}
+
 /* Makes a connection. One of a client that has put batches is first asked whether they are still there. */
-static hhm_result greet(hhm_client *hhm)
+static hhm_result greet(hhm_client *hhm, int asks)
 {
     request it = of_numbers(STATUS, 0, 0, 0);
     reply got;
-    hhm->link = hhm->port ? connect_tcp(hhm) : connect_unix(hhm);
-    hhm->process = getpid();
-    if (hhm->link < 0)
-        return failed(hhm);
-    hhm_result result = hhm->has_marker ? put_marker(hhm) : HHM_OK;
+    hhm_result result = make_link(hhm, asks);
     if (result || hhm->seen.batches == 0)
+        return result;
+    result = ask_book(hhm);
+    if (result == HHM_OK && hhm->link < 0)
+        result = make_link(hhm, 0);
+    if (result)
         return result;
     if (send_request(hhm, &it))
         return failed(hhm);
@@ -606,16 +676,29 @@ static hhm_result greet(hhm_client *hhm)
     if (result)
         return result;
     hhm_status has = status_of(&got);
-    if (has.batches < hhm->seen.batches || has.total < hhm->seen.total ||
+    if (has_other_book(hhm) || has.batches < hhm->seen.batches || has.total < hhm->seen.total ||
         (has.batches == hhm->seen.batches && has.total != hhm->seen.total))
         return went_back(hhm, has);
-    return hhm->last.kind ? put_last(hhm, has) : HHM_OK;
+    result = hhm->last.kind ? put_last(hhm, has) : HHM_OK;
+    if (result == HHM_OK && !hhm->book_id[0])
+        memcpy(hhm->book_id, hhm->seen_id, sizeof hhm->seen_id);
+    return result;
 }
 
-/* Sends the requests that weren't sent over this connection, which is made where there is none. */
+static int is_put(const request *it)
+{
+    return it->kind == PUT || it->kind == PUT_CELLS;
+}
+
+/* Sends the requests that weren't sent over this connection, which is made where there is none. Before the first put
+   the server is asked which book it has. */
 static hhm_result send_all(hhm_client *hhm, const request *requests, size_t count)
 {
-    hhm_result result = hhm->link < 0 ? greet(hhm) : HHM_OK;
+    hhm_result result = hhm->link < 0 ? greet(hhm, 1) : HHM_OK;
+    if (result == HHM_OK && is_put(requests))
+        result = ask_book(hhm);
+    if (result == HHM_OK && hhm->link < 0)
+        result = greet(hhm, 0);
     for (size_t i = hhm->owed; i < count && result == HHM_OK; i++)
         if (send_request(hhm, &requests[i]))
             result = failed(hhm);
@@ -710,6 +793,7 @@ static hhm_accepted accepted_of(hhm_client *hhm, const request *put, const reply
     if (accepted.index >= hhm->seen.batches) {
         hhm->seen.batches = accepted.index + 1;
         hhm->seen.total = accepted.total_after;
+        memcpy(hhm->seen_id, hhm->book_id, sizeof hhm->book_id);
         keep_last(hhm, put);
     }
     return accepted;

@@ -38,9 +38,9 @@ extern "C" {
 #define HHM_MOST_DEPTH 128
 
 /* A connection to a server, made when it is first needed, and made again where it is lost. Over each new one a client
-   that has put batches asks for the status, and puts the last of them again, of which it keeps a copy for that. A server
-   with a log (hhm serve --log) lost nothing that it answered, so there a program needn't keep what was accepted; without
-   one it keeps that until a save. */
+   that has put batches asks for the book's identity and the status, and puts the last of them again, of which it keeps
+   a copy for that. A server with a log (hhm serve --log) lost nothing that it answered, so there a program needn't keep
+   what was accepted; without one it keeps that until a save. */
 typedef struct hhm_client hhm_client;
 
 /* A count at a place; both numbers of the place count from 0. */
@@ -133,9 +133,12 @@ typedef enum {
     HHM_UNDECIDED
 } hhm_result;
 
-/* What this client's replies said of the accepted batches, and what a server that went back says of them. */
+/* What this client's replies said of the accepted batches, and what a server that went back says of them; and the
+   identities of its book then and now, 32 hexadecimal digits, or no digit where it gave none. Where they differ it is
+   another book. A server that begins again keeps its book's identity by its snapshot or log. */
 typedef struct {
     hhm_status had, has;
+    char had_id[33], has_id[33];
 } hhm_books;
 
 /*
@@ -168,7 +171,7 @@ void hhm_disconnect(hhm_client *hhm);
 /* Puts a batch of cells, of which one may stand in it repeatedly. Its number belongs to it for ever. */
 hhm_result hhm_put(hhm_client *hhm, uint64_t number, const hhm_cell *cells, size_t count, hhm_accepted *accepted);
 
-/* Puts a batch that is a Matrix Market text of the server's dimensions. */
+/* Puts a batch that is a Matrix Market text, with no more rows and no more columns than the server has. */
 hhm_result hhm_put_text(hhm_client *hhm, uint64_t number, const char *text, size_t length, hhm_accepted *accepted);
 
 /*

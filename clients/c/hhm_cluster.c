@@ -18,7 +18,7 @@ struct hhm_cluster {
     /* Of the last fault. */
     size_t place;
     uint64_t number;
-    char message[320];
+    char message[416];
 };
 
 /* Batches that are cut: the part of batch `at` for a place stands at place * count + at, in `cells`. */

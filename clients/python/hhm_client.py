@@ -42,6 +42,7 @@ import contextlib
 import errno
 import itertools
 import os
+import re
 import selectors
 import socket
 import struct
@@ -65,6 +66,8 @@ EARLY = 65_536
 # The seconds without a connection after which a client says that it waits.
 SILENCE = 2
 BANNER = b"%%MatrixMarket matrix coordinate integer general\n"
+# The line of a reply to a Stats with the identity of the server's book.
+BOOK_ID = re.compile(rb'^book\{id="([0-9a-f]{32})"\} ', re.MULTILINE)
 
 PUT, CELL, ROW, STATUS, EXPORT, SAVE, STOP, PUT_CELLS, STORED, RANGE, TOP, STATS, FOLD = range(1, 14)
 ACCEPTED, VALUE, ROW_SUM, COUNTS, TEXT, SAVED, STOPPING, CELLS, ROWS, TOLD = range(0x81, 0x8B)
@@ -188,15 +191,22 @@ class BookWentBack(Exception):
     `Status`. What this client put since the last save may be missing. It is to be put again, with its numbers, and so
     is what this call was given, of which nothing was sent to the server as it is now. The client goes on.
 
+    `had_id` and `has_id` are the identities of the server's book then and now, None where it reported none. Where they
+    differ it is another book, which has nothing of what the client put.
+
     `refused` has the batches that the client itself put again and that were refused, numbers with their `Refused`. Of
     those that it keeps, they are kept no longer.
     """
 
-    def __init__(self, had: Status, has: Status, refused: Sequence[Tuple[int, Refused]] = ()):
-        self.had, self.has, self.refused = had, has, list(refused)
+    def __init__(
+        self, had: Status, has: Status, refused: Sequence[Tuple[int, Refused]] = (), had_id: Optional[str] = None,
+        has_id: Optional[str] = None,
+    ):
+        self.had, self.has, self.refused, self.had_id, self.has_id = had, has, list(refused), had_id, has_id
         told = "the server went back: it had %d batches with total %d, which aren't all there, and has %d with total %d"
+        books = f"; its book was {had_id}, and is {has_id}" if are_other_books(had_id, has_id) else ""
         why = "".join(f"; batch {number}: refused: {why}" for number, why in self.refused)
-        super().__init__(told % (*had, *has) + why)
+        super().__init__(told % (*had, *has) + books + why)
 
 
 class Ended(Exception):
@@ -288,6 +298,17 @@ def value_of(word: str) -> Union[int, float, str]:
     if not (whole.isdigit() and (part.isdigit() or not point)):
         return word
     return float(word) if point else int(word)
+
+
+def book_id_of(body: bytes) -> Optional[str]:
+    """The identity of the server's book that a reply to a Stats has; None where it has none."""
+    found = BOOK_ID.search(body)
+    return found[1].decode() if found else None
+
+
+def are_other_books(had: Optional[str], has: Optional[str]) -> bool:
+    """Whether two identities are known, and are those of two books."""
+    return had is not None and has is not None and had != has
 
 
 def least_refused(ask: Callable[[int], Any]) -> int:
@@ -448,11 +469,13 @@ def went_back(known: Status, has: Status) -> bool:
 
 
 class Last(NamedTuple):
-    """An accepted batch, the one with the highest place of those that were put."""
+    """An accepted batch, the one with the highest place of those that were put, and the identity of its book, where
+    that is known."""
 
     number: int
     frame: bytes
     accepted: Accepted
+    book_id: Optional[str]
 
     def book(self) -> Status:
         return Status(self.accepted.index + 1, self.accepted.total_after)
@@ -466,6 +489,9 @@ class Link:
         self.timeout = timeout
         self.process = os.getpid()
         self.owed = 0
+        # Whether the server needn't be asked any more which book it has, and the identity of that, where it is known.
+        self.knows_book = False
+        self.book_id: Optional[str] = None
         self._early = bytearray()
         self._socket = connected_tcp(tcp, timeout) if unix is None else connected_unix(unix, timeout)
 
@@ -571,8 +597,9 @@ class Client:
     in seconds, the number of attempts doesn't matter: none begins later after the first, so 0 fails at the first fault.
     After two seconds without a connection the client says on standard error that it waits, and goes on waiting.
 
-    Over each new connection a client that has put batches asks for the status, and puts the last of them again, which
-    it keeps for that; where the server has less than was accepted, or answers another place, that is a `BookWentBack`.
+    Over each new connection a client that has put batches asks for the book's identity and the status, and puts the
+    last of them again, which it keeps for that. Where it is another book, the server has less than was accepted, or
+    answers another place, that is a `BookWentBack`.
     A server with a log (`hhm serve --log`) has what it answered after a kill and a loss of power too: `keep` is for one
     without. With it, a number of bytes, the client keeps the frames of all accepted batches (24 bytes a cell) until a
     `save` of its own that came after them was answered, and puts them again over each new connection; what a server
@@ -628,7 +655,7 @@ class Client:
         return self._put(number, put_cells_frame(self.client, number, cells))
 
     def put_text(self, number: int, text: Text) -> Accepted:
-        """Puts a batch that is a Matrix Market text of the server's dimensions."""
+        """Puts a batch that is a Matrix Market text, with no more rows and no more columns than the server has."""
         return self._put(number, put_frame(self.client, number, text))
 
     def put_all(self, batches: Iterable[Tuple[int, Cells]], depth: int = 16) -> Iterator[Tuple[int, Accepted]]:
@@ -686,6 +713,17 @@ class Client:
         """What the server tells of itself, by names of which a program takes those that it knows. One that doesn't know
         the question refuses it (UnknownKind)."""
         return self._ask_for(request(STATS), TOLD, stats_of)
+
+    def book_id(self) -> Optional[str]:
+        """The identity of the book that the server has, 32 hexadecimal digits. A server that begins again keeps it by
+        its snapshot or log; without them it has a new book. None of a server that reports none."""
+        try:
+            found = book_id_of(self._ask(request(STATS), TOLD, None))
+        except Refused:
+            return None
+        if self._link is not None and not self._link.knows_book:
+            self._link.knows_book, self._link.book_id = True, found
+        return found
 
     def size(self) -> Tuple[int, int]:
         """The server's numbers of rows and columns, as its stats tell them; of one that doesn't tell them, found by
@@ -768,7 +806,7 @@ class Client:
     def _put(self, number: int, frame: bytes) -> Accepted:
         if not self._has_room(frame):
             self.save()
-        return self._noted(number, frame, self._ask(frame, ACCEPTED, 16))
+        return self._noted(number, frame, self._ask(frame, ACCEPTED, 16), self._link)
 
     def _put_frames(self, batches: Iterable[Tuple[int, bytes]], depth: int) -> Iterator[Tuple[int, Accepted]]:
         """Puts batches (number, frame), as `put_all` does."""
@@ -779,7 +817,7 @@ class Client:
             while self._fill(ahead, max(1, min(depth, MAX_DEPTH))):
                 reply = self._first_reply(ahead.frames, ACCEPTED, 16)
                 number, frame = ahead.numbers.pop(0), ahead.frames.pop(0)
-                yield number, self._noted(number, frame, reply)
+                yield number, self._noted(number, frame, reply, self._link)
         finally:
             self._end_waiting()
             # The replies that nobody will read must not be taken for those of later requests.
@@ -810,32 +848,49 @@ class Client:
             raise ValueError(f"a batch of {len(frame)} bytes, and at most {self.keep} are kept")
         return self._kept_bytes + sum(map(len, on_the_way)) + len(frame) <= self.keep
 
-    def _noted(self, number: int, frame: bytes, body: bytes) -> Accepted:
-        """The reply to a put, which is kept where it must be."""
+    def _noted(self, number: int, frame: bytes, body: bytes, link: Optional[Link]) -> Accepted:
+        """The reply to a put over a connection, which is kept where it must be."""
         accepted = Accepted(*struct.unpack(">QQ", body))
         if self._last is None or accepted.index > self._last.accepted.index:
-            self._last = Last(number, frame, accepted)
+            self._last = Last(number, frame, accepted, link.book_id if link else None)
         if self.keep is not None:
             key = self.client, number
             self._kept_bytes += len(frame) - len(self._kept.get(key, b""))
             self._kept[key] = frame
         return accepted
 
-    def _linked(self) -> Link:
-        """The connection; a new one where there is none, or another process made it before a fork."""
+    def _linked(self, puts: bool = False, asks: bool = True) -> Link:
+        """The connection; a new one where there is none, or another process made it before a fork. Over one that
+        `puts`, the server is asked once which book it has, unless it `asks` no more."""
         if self._link is not None and self._link.process != os.getpid():
             self.close()
         if self._link is None:
-            self._begin_waiting()
-            link = Link(self.tcp, self.unix, self.timeout)
-            self._end_waiting()
-            try:
-                self._greet(link)
-            except BaseException:
-                link.close()
-                raise
-            self._link = link
+            self._link = self._greeted(asks)
+        if self._link is None or (puts and not self._ask_book(self._link)):
+            # (that question has ended the connection, as it does at a server that doesn't know it)
+            self.close()
+            return self._linked(puts, asks=False)
         return self._link
+
+    def _greeted(self, asks: bool) -> Optional[Link]:
+        """A new connection that was greeted; None where the server has ended it by refusing to report its book."""
+        link = self._connected()
+        link.knows_book = not asks
+        try:
+            is_open = self._greet(link)
+        except BaseException:
+            link.close()
+            raise
+        if not is_open:
+            link.close()
+            return None
+        return link
+
+    def _connected(self) -> Link:
+        self._begin_waiting()
+        link = Link(self.tcp, self.unix, self.timeout)
+        self._end_waiting()
+        return link
 
     def _begin_waiting(self) -> None:
         """Has a line written once there was no connection for two seconds."""
@@ -851,29 +906,50 @@ class Client:
         if waiting is not None:
             waiting.cancel()
 
-    def _greet(self, link: Link) -> None:
-        """Over a new connection: asks whether what was accepted is still there, and puts again what is kept."""
+    def _greet(self, link: Link) -> bool:
+        """Over a new connection: asks whether what was accepted is still there, and puts again what is kept. False
+        where the server has ended it by refusing to report its book."""
         last = self._last if self.keep is None else self._saved
-        if last is not None and (fault := self._went_back(link, last)):
-            self._last = self._saved = None
-            raise fault
+        if last is None and not self._kept:
+            return True
+        if not self._ask_book(link):
+            return False
+        if last is not None:
+            if fault := self._went_back(link, last):
+                self._last = self._saved = None
+                raise fault
+            link.book_id = link.book_id or last.book_id
         if self._kept:
             self._put_kept(link)
+        return True
+
+    def _ask_book(self, link: Link) -> bool:
+        """Asks, once over a connection, which book the server has, and returns whether the connection is still open: a
+        server that doesn't know the question, or has no memory for its answer, ends it."""
+        if link.knows_book:
+            return True
+        link.knows_book = True
+        link.send(request(STATS))
+        try:
+            link.book_id = book_id_of(self._checked(link.reply(), TOLD, None))
+        except Refused as why:
+            return not why.ends_session
+        return True
 
     def _went_back(self, link: Link, last: Last) -> Optional[BookWentBack]:
-        """Whether the server lacks what it had with this batch. Where its status doesn't show it, since others have put
-        meanwhile, the batch that is put again has another place."""
-        had, has = last.book(), self._status_of(link)
-        if went_back(had, has):
-            return BookWentBack(had, has)
+        """Whether the server lacks what it had with this batch. Another book does. Where the status doesn't show it,
+        since others have put meanwhile, the batch that is put again has another place."""
+        had, has, book_ids = last.book(), self._status_of(link), (last.book_id, link.book_id)
+        if are_other_books(*book_ids) or went_back(had, has):
+            return BookWentBack(had, has, (), *book_ids)
         link.send(last.frame)
         try:
             is_there = self._checked(link.reply(), ACCEPTED, 16) == struct.pack(">QQ", *last.accepted)
-            return None if is_there else BookWentBack(had, has)
+            return None if is_there else BookWentBack(had, has, (), *book_ids)
         except Refused as why:
             if why.ends_session:
                 raise
-            return None if why.is_of_log else BookWentBack(had, has, [(last.number, why)])
+            return None if why.is_of_log else BookWentBack(had, has, [(last.number, why)], *book_ids)
 
     def _status_of(self, link: Link) -> Status:
         link.send(request(STATUS))
@@ -884,7 +960,7 @@ class Client:
         had, self._last = self._last, self._saved
         for ((client, number), frame), reply in zip(kept, link.replies(frame for _, frame in kept)):
             try:
-                self._noted(number, frame, self._checked(reply, ACCEPTED, 16))
+                self._noted(number, frame, self._checked(reply, ACCEPTED, 16), link)
             except Refused as why:
                 if why.ends_session:
                     raise
@@ -895,7 +971,7 @@ class Client:
                 self._kept_bytes -= len(self._kept.pop((client, number)))
         if refused:
             has = self._status_of(link)
-            raise BookWentBack(had.book() if had else has, has, refused)
+            raise BookWentBack(had.book() if had else has, has, refused, had.book_id if had else None, link.book_id)
 
     @staticmethod
     def _checked(reply: Tuple[int, bytes], wanted: int, length: Optional[int]) -> bytes:
@@ -937,7 +1013,7 @@ class Client:
 
     def _send(self, frames: List[bytes]) -> Link:
         """Sends the requests that weren't sent over this connection, which is made where there is none."""
-        link = self._linked()
+        link = self._linked(puts=frames[0][4] in (PUT, PUT_CELLS))
         for frame in frames[link.owed :]:
             link.send(frame)
         return link

@@ -257,21 +257,22 @@ class Part(Client):
     def _rest(self, seconds: float) -> None:
         self._is_given_up.wait(seconds)
 
-    def _linked(self) -> Link:
+    def _linked(self, puts: bool = False, asks: bool = True) -> Link:
         self._judge_given_up()
-        if self._link is None or self._link.process != os.getpid():
-            address = self.server() if callable(self.server) else self.server
-            where = where_of(address)
-            self.tcp, self.unix = where.get("tcp"), where.get("unix")
-        return super()._linked()
+        return super()._linked(puts, asks)
 
-    def _greet(self, link: Link) -> None:
+    def _connected(self) -> Link:
+        where = where_of(self.server() if callable(self.server) else self.server)
+        self.tcp, self.unix = where.get("tcp"), where.get("unix")
+        return super()._connected()
+
+    def _greet(self, link: Link) -> bool:
         # (in this order, since `give_up` does the two in the other one)
         self._newest = link
         self._judge_given_up()
         if self.marker is not None:
             self._put_marker(link, self.marker)
-        super()._greet(link)
+        return super()._greet(link)
 
     def _put_marker(self, link: Link, marker: int) -> None:
         link.send(request(PUT_CELLS, MARKER, marker))

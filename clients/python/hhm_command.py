@@ -79,7 +79,7 @@ def parser() -> argparse.ArgumentParser:
     attempts = "how often a request is sent (3, within a moment; of a load 14, for a minute, as a server takes to start)"
     words.add_argument("--attempts", type=int, metavar="N", help=attempts)
     asked = words.add_subparsers(dest="word", required=True, title="commands", metavar="COMMAND")
-    put = asked.add_parser("put", help="puts a Matrix Market text as a batch")
+    put = asked.add_parser("put", help="puts a Matrix Market text as a batch: no more rows or columns than the server")
     put.add_argument("client", type=number)
     put.add_argument("number", type=number)
     put.add_argument("file", nargs="?", help="standard input where none is given")

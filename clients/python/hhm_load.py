@@ -8,7 +8,8 @@ This is the word `load` of `hhm_client.py`:
 Batch k of a client is always the same events: `--batch` events in the order of the files, and the last of each file,
 which may have fewer. So a load that was interrupted, killed too, is begun again with the same words, and each event
 counts once. Of each batch a checksum is written into a state file before the batch is sent; other events under a number
-that was used are found by it, and refused before any of them is sent.
+that was used are found by it, and refused before any of them is sent. A state file has the checksums of each book by
+itself, so one client number may be used for several servers.
 
 A row and a column are numbers, addresses, or names. Names, and addresses of IPv6, which have 128 bits, get numbers in
 the order in which they come, by a table: a file with one name a line that only grows, and whose lines are on the disk
@@ -25,9 +26,9 @@ import os
 import re
 import sys
 from time import monotonic
-from typing import Any, Callable, Deque, Dict, Iterator, List, NamedTuple, Optional, Sequence, Tuple
+from typing import Any, Callable, Deque, Dict, Iterable, Iterator, List, NamedTuple, Optional, Sequence, Tuple
 
-from hhm_client import MAX_CELLS, Arrays, BookWentBack, Client, Ended, Refused
+from hhm_client import MAX_CELLS, BookWentBack, Client, Ended, Refused, Status, are_other_books
 from hhm_events import FORMATS, OF_ADDRESSES, Batch, Events, Limit, Source, Tally, format_of
 from hhm_heads import DIGITS, Wanted
 from hhm_values import Value, folder_of_states, note
@@ -35,8 +36,12 @@ from hhm_values import Value, folder_of_states, note
 MAPS = ("ip", "int", "name")
 # How lines are judged, as the state of a load notes it: another number where other lines would be events.
 RULES = "2"
-# What the line of options in a state file begins with, and the names of state files.
-OPTIONS = b"options "
+# What lines of a state file begin with that are no checksum: the options of a load, the books that the next lines are
+# of, and the books whose are the lines of no known book.
+OPTIONS, BOOKS, OWNERS = b"options ", b"books ", b"owners "
+# In place of the identity of a book: of a server that reports none. So are the lines before the first books.
+NO_BOOK = "-"
+# The names of state files.
 STATE_FILE = re.compile(r"client-([0-9]+)\.batches")
 # The first number of an IPv6 address, after all of IPv4.
 IPV4 = 1 << 32
@@ -151,29 +156,92 @@ class Table(Dict[str, int]):
             self.new = []
 
 
+class Section:
+    """What a state file has of one book: the options that say which lines are events, where they were noted, and the
+    checksums of the batches that the client's number was used for."""
+
+    def __init__(self, line: Optional[bytes] = None, batches: Sequence[bytes] = ()) -> None:
+        self.line, self.batches = line, list(batches)
+
+    def copy(self) -> "Section":
+        return Section(self.line, self.batches)
+
+    def add(self, line: bytes) -> None:
+        if line.startswith(OPTIONS):
+            self.line = line
+        else:
+            self.batches.append(line)
+
+    def others(self, options: Dict[str, str]) -> Optional[str]:
+        """What options were noted and what they are now, where these differ. An earlier hhmc has noted none."""
+        known = options if self.line is None else json.loads(self.line[len(OPTIONS):])
+        names = [name for name in options if known.get(name) != options[name]]
+        was, now = (" ".join(f"{name} {it.get(name)}" for name in names) for it in (known, options))
+        return f"{was}, and this load has {now}" if names else None
+
+
+def sections_of(lines: Iterable[bytes]) -> Dict[str, Section]:
+    """What the lines of a state file say of each book."""
+    sections: Dict[str, Section] = {}
+    books = [NO_BOOK]
+    for line in lines:
+        if line.startswith(BOOKS):
+            books = line[len(BOOKS):].decode().split()
+        elif line.startswith(OWNERS):
+            section = sections.pop(NO_BOOK, Section())
+            sections.update((book, section.copy()) for book in line[len(OWNERS):].decode().split())
+        else:
+            for book in books:
+                sections.setdefault(book, Section()).add(line)
+    return sections
+
+
 class State:
-    """The checksums of the batches that a client's number was used for, in a file of one line each, and before them
-    the options that say which lines are events. A file of an earlier hhmc has no line of options."""
+    """The checksums of the batches that a client's number was used for, of each book by itself, in a file of one line
+    each. Before those of a book are the options that say which lines are events.
+
+    A file of an earlier hhmc says of no line which book it is of, and may have no options. Its lines are those of the
+    first book that has its first batch, which the first put of a load shows. (Its last line says nothing: the batch may
+    never have been sent. Before a second one was noted the first was accepted.)
+    """
 
     def __init__(self, path: str, client: int):
         self.path, self.client = path, client
         self.file = Lines(path, f"client {client}")
-        self.known = self.file.known
+        self.sections = sections_of(self.file.known)
+        # The books that the end of the file is of.
+        self.end = [] if any(line.startswith(BOOKS) for line in self.file.known) else [NO_BOOK]
         self.new: List[bytes] = []
-        self.options: Optional[Dict[str, str]] = None if self.known else {}
-        if self.known and self.known[0].startswith(OPTIONS):
-            self.options = json.loads(self.known.pop(0)[len(OPTIONS):])
+        # The books of this load, and those of them that may have the lines of no known book.
+        self.books: List[str] = []
+        self.asked: List[str] = []
+
+    def begin(self, books: Sequence[Optional[str]]) -> None:
+        """Before a load into these books."""
+        self.books = list(dict.fromkeys(book or NO_BOOK for book in books))
+        has_old = NO_BOOK in self.sections and bool(self.sections[NO_BOOK].batches)
+        self.asked = [it for it in self.books if has_old and it not in self.sections]
+
+    def note(self, books: List[str], line: bytes) -> None:
+        """Notes a line of these books."""
+        if books != self.end:
+            self.new.append(BOOKS + " ".join(books).encode())
+            self.end = books
+        self.new.append(line)
+        for book in books:
+            self.sections.setdefault(book, Section()).add(line)
 
     def judge_options(self, options: Dict[str, str]) -> None:
         """Notes the options of a load. An Ended where the load that it goes on with had others."""
-        if self.options == {}:
-            self.options = options
-            self.new.append(OPTIONS + json.dumps(options).encode())
-        known = options if self.options is None else self.options
-        if others := [name for name in options if known.get(name) != options[name]]:
-            was, now = (" ".join(f"{name} {it.get(name)}" for name in others) for it in (known, options))
-            raise Ended(2, f"client {self.client} was loaded with {was}, and this load has {now} ({self.path} says "
-                           "so): nothing was sent. Load with the same words, or with another client number")
+        for book in self.books:
+            if book in self.sections and (others := self.sections[book].others(options)):
+                raise self.had_others(others)
+        if new := [book for book in self.books if book not in self.sections]:
+            self.note(new, OPTIONS + json.dumps(options).encode())
+
+    def had_others(self, others: str, what: str = "was sent") -> Ended:
+        return Ended(2, f"client {self.client} was loaded with {others} ({self.path} says so): nothing {what}. Load "
+                        "with the same words, or with another client number")
 
     def judge(self, batch: Batch) -> bool:
         """Notes a batch, and returns whether it is new. An Ended where other events were put with its number."""
@@ -181,40 +249,65 @@ class State:
         for part in batch.parts:
             digest.update(part)
         word = b"%d %s" % (len(batch.lines), digest.hexdigest().encode())
-        if batch.number >= len(self.known):
-            self.known.append(word)
-            self.new.append(word)
-            return True
-        if self.known[batch.number] != word:
-            raise Ended(2, f"{batch.path}: batch {batch.number} of client {self.client} has other events than when it "
-                           f"was put before, so the file, the files before it, or the options differ ({self.path}"
-                           " says so): nothing was sent. Load another file with another client number; a file of "
-                           "which a part was put goes on only if that part stays as it is")
-        return False
+        known = {book: self.sections[book].batches[batch.number : batch.number + 1] for book in self.books}
+        if any(it and it != [word] for it in known.values()):
+            raise self.has_others(batch)
+        if new := [book for book in self.books if not known[book]]:
+            self.note(new, word)
+        return bool(new)
+
+    def has_others(self, batch: Batch, what: str = "was sent") -> Ended:
+        return Ended(2, f"{batch.path}: batch {batch.number} of client {self.client} has other events than when it "
+                        f"was put before, so the file, the files before it, or the options differ ({self.path} says "
+                        f"so): nothing {what}. Load another file with another client number; a file of which a part "
+                        "was put goes on only if that part stays as it is")
+
+    def differs(self, book: Optional[str], batch: Batch) -> Optional[Ended]:
+        """What is reported where the lines of no known book may be of this one, and are of other events than the first
+        batch of this load."""
+        if book is None or book not in self.asked:
+            return None
+        old, now = self.sections[NO_BOOK], self.sections[book]
+        if now.line is not None and (others := old.others(json.loads(now.line[len(OPTIONS):]))):
+            return self.had_others(others, "of it counts")
+        return self.has_others(batch, "of it counts") if old.batches[:1] != now.batches[:1] else None
+
+    def take_over(self, books: Sequence[Optional[str]]) -> bool:
+        """Notes that the lines of no known book are of those of these that may have them. Returns whether any may."""
+        owners, self.asked = [it for it in self.asked if it in books], []
+        if owners:
+            self.new.append(OWNERS + " ".join(owners).encode())
+            section = self.sections.pop(NO_BOOK)
+            self.sections.update((owner, section.copy()) for owner in owners)
+            self.sync()
+        return bool(owners)
 
     def twin(self) -> Optional[int]:
-        """Another client whose first batch has the same events, by the state files in the same folder."""
+        """Another client whose first batch has the same events, in a book of this load or in one that isn't known, by
+        the state files in the same folder."""
         folder = os.path.dirname(self.path)
         for name in sorted(os.listdir(folder)):
             found = STATE_FILE.fullmatch(name)
-            if found and int(found[1]) != self.client and first_batch(os.path.join(folder, name)) == self.known[0]:
+            if found and int(found[1]) != self.client and self.has_first(os.path.join(folder, name)):
                 return int(found[1])
         return None
+
+    def has_first(self, path: str) -> bool:
+        """Whether the first batch of this load may be in another state file as that of the same book."""
+        first = self.sections[self.books[0]].batches[:1]
+        try:
+            with open(path, "rb") as file:
+                sections = sections_of(line.rstrip(b"\n") for line in file)
+        except OSError:
+            return False
+        known = {NO_BOOK, *self.books}
+        return any(section.batches[:1] == first for book, section in sections.items()
+                   if book in known or NO_BOOK in self.books)
 
     def sync(self) -> None:
         if self.new:
             self.file.append(self.new)
             self.new = []
-
-
-def first_batch(path: str) -> bytes:
-    """The checksum of the first batch of a state file; nothing where it can't be read."""
-    try:
-        with open(path, "rb") as file:
-            line = file.readline()
-            return (file.readline() if line.startswith(OPTIONS) else line).rstrip(b"\n")
-    except OSError:
-        return b""
 
 
 def usual_state(client: int) -> str:
@@ -293,6 +386,8 @@ class Load:
         self.state = State(options.state or usual_state(client), client)
         self.table: Optional[Table] = None
         self.progress = Progress(options.progress)
+        # The identities of the servers' books, where they report them.
+        self.books: List[Optional[str]] = []
         # Whether a server may have any of the events.
         self.is_sent = False
         self.begin()
@@ -343,7 +438,12 @@ class Load:
         if self.table is not None:
             self.table.sync()
         self.state.sync()
-        if batch.number == 0 and is_new and self.options.state is None and (client := self.state.twin()) is not None:
+        if batch.number == 0 and is_new and not self.state.asked:
+            self.warn_of_twin(batch)
+
+    def warn_of_twin(self, batch: Batch) -> None:
+        """Says of a first batch that is new where another client number has it too."""
+        if self.options.state is None and (client := self.state.twin()) is not None:
             self.say(f"{batch.path}: its first {len(batch.lines)} events were loaded as client {client} too: where "
                      "that was into this server, they count twice")
 
@@ -365,11 +465,27 @@ class Load:
 
     def count(self, indexes: Sequence[int], had: Sequence[int]) -> None:
         """Counts a batch by its index at each server. It is a repeat where each server had it before this load."""
-        self.events += len(self.way.pop(0).lines)
+        batch = self.way.pop(0)
+        if batch.number == 0 and self.state.asked:
+            self.settle(batch, [book for book, index, before in zip(self.books, indexes, had) if index < before])
+        self.events += len(batch.lines)
         if all(index < before for index, before in zip(indexes, had)):
             self.repeats += 1
         else:
             self.new += 1
+
+    def settle(self, batch: Batch, having: List[Optional[str]]) -> None:
+        """Once the first batch was put, which these books had before: says whose the lines of no known book are. An
+        Ended where they are of other events, with as many cells and the same total."""
+        fault = next(filter(None, (self.state.differs(book, batch) for book in having)), None)
+        if fault and len(having) == len(self.books):
+            # (no server counts anything of this load)
+            self.take_back()
+            raise fault
+        if not self.state.take_over(having):
+            self.warn_of_twin(batch)
+        if fault:
+            raise fault
 
     def puts(self, value: int, batches: Iterator[Batch]) -> Iterator[int]:
         """Puts a value of batches to its server, and gives their indices there. The first goes alone, so that nothing
@@ -377,25 +493,37 @@ class Load:
         hhm = self.servers[value]
         try:
             if (first := next(batches, None)) is not None:
-                yield self.put_first(hhm, first.number, first.cells(value))
+                yield self.put_first(value, first)
             for _, accepted in hhm.put_all((batch.number, batch.cells(value)) for batch in batches):
                 yield accepted.index
         except (Refused, OSError):
             self.place = f"{hhm.unix or hhm.tcp}: " if len(self.servers) > 1 else ""
             raise
 
-    def put_first(self, hhm: Client, number: int, cells: Arrays) -> int:
+    def put_first(self, value: int, batch: Batch) -> int:
         """Puts a server's first batch, and returns its index there."""
-        was_sent, self.is_sent = self.is_sent, True
+        hhm, book, was_sent = self.servers[value], self.books[value], self.is_sent
+        self.is_sent = True
         try:
-            return hhm.put(number, cells).index
+            accepted = hhm.put(batch.number, batch.cells(value))
         except Refused as refused:
             # (a want of memory or of a log says nothing of an earlier try, whose reply was lost)
             self.is_sent = was_sent or refused.code not in JUDGED
+            if refused.name == "NumberReused" and (fault := self.state.differs(book, batch)):
+                if not self.is_sent:
+                    self.take_back()
+                raise fault from None
             raise
+        has = hhm._last.book_id if hhm._last else None
+        if are_other_books(book, has):
+            # (the server began again since it was asked for its book)
+            raise BookWentBack(Status(0, 0), hhm.status(), (), book, has)
+        return accepted.index
 
     def put_all(self) -> None:
         """Reads the files once, and puts each value to its server."""
+        self.books = [hhm.book_id() for hhm in self.servers]
+        self.state.begin(self.books)
         had = [hhm.status().batches for hhm in self.servers]
         batches, queues = self.batches(), [collections.deque() for _ in self.servers]
         with contextlib.ExitStack() as puts:
@@ -517,7 +645,7 @@ def add_words(load: argparse.ArgumentParser) -> None:
     skipped.add_argument("--strict", action="store_true", help="the first line that is no event ends the load")
     some = "how many lines may be no events, as a number or a share (1%%)"
     skipped.add_argument("--skip-at-most", type=judged(Limit.of), default=Limit(0.01, 0), metavar="N", help=some)
-    load.add_argument("--state", metavar="FILE", help="where checksums of the batches are kept, for each client number")
+    load.add_argument("--state", metavar="FILE", help="where a client number's checksums are kept, by books")
     load.add_argument("--progress", action="store_true", help="a line every ten seconds, where there is no terminal")
 
 

@@ -11,7 +11,8 @@ other; when it is back, this program puts what it lacks from the other's snapsho
     hhm_mirror.py A.snap B.snap ADDRESS_OF_B
 
 Save both servers first (`hhmc save`), so that the files have what the servers have; new batches may be put to both
-meanwhile. It puts each batch of A that B lacks, in A's order and under its own numbers, and tells
+meanwhile. Where the server has another book than B.snap, by their identities, nothing is put. Else the program puts
+each batch of A that B lacks, in A's order and under its own numbers, and reports
 - CONFLICT: both have the pair, with another number of cells or another total; a server would answer NumberReused;
 - SILENT: both have the pair, with as many cells and the same total, and other cells: no server can tell that;
 - FOLDED: B lacks the batch, and A has its cells no more. Nothing is put then: run it the other way, so that A has what
@@ -29,7 +30,8 @@ from typing import Any, Dict, Iterable, Iterator, List, Set, Tuple
 
 sys.path.insert(0, os.path.dirname(os.path.abspath(__file__)))
 from hhm_client import (  # noqa: E402
-    MAX_DEPTH, PUT_CELLS, Accepted, BookWentBack, Cells, Client, Refused, put_cells_frame, request, where_of,
+    MAX_DEPTH, PUT_CELLS, Accepted, BookWentBack, Cells, Client, Refused, are_other_books, put_cells_frame, request,
+    where_of,
 )
 from hhm_cluster import Half, Outcome, Part, Place, Several  # noqa: E402
 from hhm_snapshot import Batch, Snapshot, read_snapshot  # noqa: E402
@@ -157,6 +159,13 @@ def checked(program: str, path: str) -> Snapshot:
     return read_snapshot(path)
 
 
+def judge_book(hhm: Client, snapshot: Snapshot, path: str) -> None:
+    """A ValueError where a server has another book than its snapshot, which then doesn't say what the server lacks."""
+    known = snapshot.book.hex() if any(snapshot.book) else None
+    if are_other_books(known, has := hhm.book_id()):
+        raise ValueError(f"{path} is of book {known}, and the server has book {has}: save that server first")
+
+
 def mirror(given: argparse.Namespace) -> int:
     a, b = checked(given.program, given.a), checked(given.program, given.b)
     if (a.rows, a.cols) != (b.rows, b.cols):
@@ -165,6 +174,7 @@ def mirror(given: argparse.Namespace) -> int:
     lines, put = found.lines, 0
     if not found.is_folded:
         with client_of(given.address) as hhm:
+            judge_book(hhm, b, given.b)
             refused = put_batches(hhm, found.lacks)
         put = len(found.lacks) - len(refused)
         lines = lines + refused

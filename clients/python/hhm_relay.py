@@ -40,7 +40,8 @@ from hhm_mirror import checked, client_of  # noqa: E402
 from hhm_snapshot import Batch, Snapshot  # noqa: E402
 
 PART = 1_000_000
-# The most parts of one step, and what a batch's place is multiplied by: a book has at most 1,000,000 batches.
+# The most parts of one step, and what a batch's place is multiplied by. A book has at most 2^30 batches, so the numbers
+# stay below 2^50.
 PARTS = 1 << 20
 # A cell of a sum: its row and column, and its count.
 Sum = Tuple[Tuple[int, int], int]

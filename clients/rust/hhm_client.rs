@@ -77,6 +77,30 @@ pub struct Status {
     pub total: u64,
 }
 
+/// The identity of a server's book. A server that begins again keeps it by its snapshot or log; without them it has a
+/// new book. `Display` writes it as the server does: 32 hexadecimal digits.
+#[derive(Clone, Copy, Debug, PartialEq, Eq, Hash)]
+pub struct BookId(pub u128);
+
+impl BookId {
+    /// The identity that a reply to a Stats has; None where it has none.
+    fn of(stats: &[u8]) -> Option<BookId> {
+        let line = stats
+            .split(|byte| *byte == b'\n')
+            .find_map(|line| line.strip_prefix(b"book{id=\"")?.strip_suffix(b"\"} 1"))?;
+        let is_lower_hex = |byte: &u8| matches!(byte, b'0'..=b'9' | b'a'..=b'f');
+        let is_id = line.len() == 32 && line.iter().all(is_lower_hex);
+        let digits = std::str::from_utf8(line).ok().filter(|_| is_id)?;
+        u128::from_str_radix(digits, 16).ok().map(BookId)
+    }
+}
+
+impl fmt::Display for BookId {
+    fn fmt(&self, out: &mut fmt::Formatter<'_>) -> fmt::Result {
+        write!(out, "{:032x}", self.0)
+    }
+}
+
 /// Cells of a range, by row and then by column, and whether further ones follow.
 #[derive(Clone, Debug, PartialEq, Eq)]
 pub struct Page {
@@ -200,8 +224,14 @@ pub enum Error {
     /// The server lacks what it had accepted: it began again from an older snapshot, or without one. `had` is what this
     /// client's replies said of the accepted batches, `has` what the server says of them now. What this client put
     /// since the last save may be missing: put it again, with its numbers, and what this call was given, of which
-    /// nothing was sent to the server as it is now. The client goes on.
-    BookWentBack { had: Status, has: Status },
+    /// nothing was sent to the server as it is now. The client goes on. `had_id` and `has_id` are the identities of its
+    /// book then and now, where it reported them; where they differ it is another book.
+    BookWentBack {
+        had: Status,
+        has: Status,
+        had_id: Option<BookId>,
+        has_id: Option<BookId>,
+    },
     /// The first batch of the server's book isn't the marker that this client demands (`Client::with_marker`). Nothing
     /// but the marker was put over this connection.
     OtherMap,
@@ -220,12 +250,25 @@ impl fmt::Display for Error {
                 MAX_BODY - 16
             ),
             Error::BadReply => out.write_str("what came is no reply to what was asked"),
-            Error::BookWentBack { had, has } => write!(
-                out,
-                "the server went back: it had {} batches with total {}, which aren't all there, and \
-                 has {} with total {}",
-                had.batches, had.total, has.batches, has.total
-            ),
+            Error::BookWentBack {
+                had,
+                has,
+                had_id,
+                has_id,
+            } => {
+                write!(
+                    out,
+                    "the server went back: it had {} batches with total {}, which aren't all there, and \
+                     has {} with total {}",
+                    had.batches, had.total, has.batches, has.total
+                )?;
+                match (had_id, has_id) {
+                    (Some(had), Some(has)) if had != has => {
+                        write!(out, "; its book was {had}, and is {has}")
+                    }
+                    _ => Ok(()),
+                }
+            }
             Error::OtherMap => out.write_str("the server is one of another map"),
             Error::Io(fault) => fault.fmt(out),
         }
@@ -263,6 +306,9 @@ struct Link {
     process: u32,
     /// What was read of replies while requests were sent.
     early: VecDeque<u8>,
+    /// Whether the server needn't be asked any more which book it has, and the identity of that, where it is known.
+    knows_book: bool,
+    book_id: Option<BookId>,
 }
 
 impl Link {
@@ -274,7 +320,25 @@ impl Link {
             timeout,
             process: process::id(),
             early: VecDeque::new(),
+            knows_book: false,
+            book_id: None,
         })
+    }
+
+    /// Asks, once over a connection, which book the server has. Gives whether the connection is still open: a server
+    /// that doesn't know the question, or has no memory for its answer, ends it.
+    fn ask_book(&mut self) -> Result<bool, Error> {
+        if self.knows_book {
+            return Ok(true);
+        }
+        self.knows_book = true;
+        self.send(&request(12, &[]))?;
+        match reply_of(self, TOLD) {
+            Ok(body) => self.book_id = BookId::of(&body),
+            Err(Error::Refused(refusal)) => return Ok(!refusal.ends_session()),
+            Err(fault) => return Err(fault),
+        }
+        Ok(true)
     }
 
     /// What is left of the timeout since then; a fault where nothing is.
@@ -404,10 +468,10 @@ const ROWS: Wanted = wanted(0x89, None);
 const TOLD: Wanted = wanted(0x8a, None);
 
 /// A connection to a server, made when it is first needed, and made again where it is lost; every request is then sent
-/// again. Over each new connection a client that has put batches asks for the status, and puts the last of them again,
-/// which it keeps for that (`Error::BookWentBack`). A server with a log (`hhm serve --log`) lost nothing that it
-/// answered, so there a program needn't keep what was accepted; without one it keeps that until a save. Dropping it
-/// closes the connection; what was accepted stays.
+/// again. Over each new connection a client that has put batches asks for the book's identity and the status, and puts
+/// the last of them again, which it keeps for that (`Error::BookWentBack`). A server with a log (`hhm serve --log`)
+/// lost nothing that it answered, so there a program needn't keep what was accepted; without one it keeps that until a
+/// save. Dropping it closes the connection; what was accepted stays.
 pub struct Client {
     address: Address,
     number: u64,
@@ -419,10 +483,12 @@ pub struct Client {
     last: Option<Last>,
 }
 
-/// An accepted batch, the one with the highest place of those that were put.
+/// An accepted batch, the one with the highest place of those that were put, and the identity of its book, where that
+/// is known.
 struct Last {
     frame: Vec<u8>,
     accepted: Accepted,
+    book_id: Option<BookId>,
 }
 
 impl Last {
@@ -434,12 +500,13 @@ impl Last {
         }
     }
 
-    /// What the server has, where it lacks what it had with this batch. Where its status doesn't show it, since others
-    /// have put meanwhile, the batch that is put again has another place, or is refused.
+    /// What the server has, where it lacks what it had with this batch, as another book does. Where the status doesn't
+    /// show it, since others have put meanwhile, the batch that is put again has another place, or is refused.
     fn missed(&self, link: &mut Link) -> Result<Option<Status>, Error> {
         link.send(&request(4, &[]))?;
         let has = status_of(&reply_of(link, COUNTS)?);
-        if went_back(self.book(), has) {
+        let ids = self.book_id.zip(link.book_id);
+        if ids.map_or(false, |(had, has)| had != has) || went_back(self.book(), has) {
             return Ok(Some(has));
         }
         link.send(&self.frame)?;
@@ -508,10 +575,11 @@ impl Client {
     pub fn put(&mut self, number: u64, cells: &[Cell]) -> Result<Accepted, Error> {
         let frame = put_cells_frame(self.number, number, cells)?;
         let body = self.ask(&frame, ACCEPTED)?;
-        Ok(self.noted(frame, &body))
+        let book_id = self.link.as_ref().and_then(|link| link.book_id);
+        Ok(self.noted(frame, &body, book_id))
     }
 
-    /// Puts a batch that is a Matrix Market text of the server's dimensions.
+    /// Puts a batch that is a Matrix Market text, with no more rows and no more columns than the server has.
     pub fn put_text(&mut self, number: u64, text: &[u8]) -> Result<Accepted, Error> {
         if text.len() > MAX_BODY - 16 {
             return Err(Error::TooLarge);
@@ -519,7 +587,8 @@ impl Client {
         let mut frame = put_head(1, 16 + text.len(), self.number, number);
         frame.extend_from_slice(text);
         let body = self.ask(&frame, ACCEPTED)?;
-        Ok(self.noted(frame, &body))
+        let book_id = self.link.as_ref().and_then(|link| link.book_id);
+        Ok(self.noted(frame, &body, book_id))
     }
 
     /// Puts batches, numbers with their cells, with up to `depth` of them on the way, 128 at most, and calls `replied`
@@ -553,7 +622,8 @@ impl Client {
                 break;
             };
             let (frame, body) = self.first_reply(&mut way, ACCEPTED)?;
-            replied(number, self.noted(frame, &body));
+            let book_id = way.link.as_ref().and_then(|link| link.book_id);
+            replied(number, self.noted(frame, &body, book_id));
         }
         self.link = way.link;
         Ok(())
@@ -696,15 +766,20 @@ impl Client {
     }
 
     /// Sends the requests that weren't sent over this connection, which is made where there is none, or another process
-    /// made it before a fork.
+    /// made it before a fork. Before the first put the server is asked which book it has.
     fn send<'w, F: AsRef<[u8]>>(&mut self, way: &'w mut Way<F>) -> Result<&'w mut Link, Error> {
         if way.link.as_ref().map(|link| link.process) != Some(process::id()) {
             way.lose();
         }
-        let link = match way.link.take() {
-            Some(link) => way.link.insert(link),
-            None => way.link.insert(self.greeted()?),
+        let puts = way.frames.front().map_or(false, |it| is_put(it.as_ref()));
+        let mut link = match way.link.take() {
+            Some(link) => link,
+            None => self.greeted(true)?,
         };
+        if puts && !link.ask_book()? {
+            link = self.greeted(false)?;
+        }
+        let link = way.link.insert(link);
         for frame in way.frames.iter().skip(way.sent) {
             way.sent += 1;
             link.send(frame.as_ref())?;
@@ -750,35 +825,44 @@ impl Client {
         }
     }
 
-    /// A new connection. One of a client that has put batches is first asked whether they are still there.
-    fn greeted(&mut self) -> Result<Link, Error> {
+    /// A new connection. One of a client that has put batches is first asked whether they are still there; without
+    /// `asks` not which book it is.
+    fn greeted(&mut self, asks: bool) -> Result<Link, Error> {
         let mut link = self.connect()?;
+        link.knows_book = !asks;
         if let Some(marker) = self.marker {
-            link.send(&put_cells_frame(u64::MAX, marker, &[])?)?;
-            match reply_of(&mut link, ACCEPTED) {
-                Ok(body) if number_at(&body, 0) == 0 => {}
-                Ok(_) => return Err(Error::OtherMap),
-                // (NumberReused, BookFull; any other, as that of a log without room, says nothing of what the book has)
-                Err(Error::Refused(Refusal { code: 30 | 32, .. })) => return Err(Error::OtherMap),
-                Err(fault) => return Err(fault),
-            }
+            put_marker(&mut link, marker)?;
         }
-        if let Some(last) = &self.last {
-            if let Some(has) = last.missed(&mut link)? {
-                let had = last.book();
-                self.last = None;
-                return Err(Error::BookWentBack { had, has });
-            }
+        let Some(last) = &self.last else {
+            return Ok(link);
+        };
+        if !link.ask_book()? {
+            return self.greeted(false);
         }
+        if let Some(has) = last.missed(&mut link)? {
+            let (had, had_id, has_id) = (last.book(), last.book_id, link.book_id);
+            self.last = None;
+            return Err(Error::BookWentBack {
+                had,
+                has,
+                had_id,
+                has_id,
+            });
+        }
+        link.book_id = link.book_id.or(last.book_id);
         Ok(link)
     }
 
     /// The reply to a put, whose frame is kept where its place is the highest.
-    fn noted(&mut self, frame: Vec<u8>, body: &[u8]) -> Accepted {
+    fn noted(&mut self, frame: Vec<u8>, body: &[u8], book_id: Option<BookId>) -> Accepted {
         let accepted = accepted_of(body);
         let seen = self.last.as_ref().map_or(0, |last| last.book().batches);
         if accepted.index >= seen {
-            self.last = Some(Last { frame, accepted });
+            self.last = Some(Last {
+                frame,
+                accepted,
+                book_id,
+            });
         }
         accepted
     }
@@ -837,6 +921,23 @@ impl<F> Way<F> {
         self.sent -= 1;
         self.frames.pop_front().expect("a request that was sent")
     }
+}
+
+/// Puts the marker, which must be the first batch of the book.
+fn put_marker(link: &mut Link, marker: u64) -> Result<(), Error> {
+    link.send(&put_cells_frame(u64::MAX, marker, &[])?)?;
+    match reply_of(link, ACCEPTED) {
+        Ok(body) if number_at(&body, 0) == 0 => Ok(()),
+        Ok(_) => Err(Error::OtherMap),
+        // (NumberReused, BookFull; any other, as that of a log without room, says nothing of what the book has)
+        Err(Error::Refused(Refusal { code: 30 | 32, .. })) => Err(Error::OtherMap),
+        Err(fault) => Err(fault),
+    }
+}
+
+/// Whether a request puts a batch.
+fn is_put(frame: &[u8]) -> bool {
+    matches!(frame.get(4), Some(1 | 8))
 }
 
 /// Whether a book that had, once, so many batches with such a total isn't the front of one that has these.

@@ -21,6 +21,11 @@ within_among : (r c : ℕ) (before : List Cell) (cell : Cell) (after : List Cell
 within_among r c [] cell after h = h 0 cell (omega arith)
 within_among r c (x ∷ xs) cell after h = within_among r c xs cell after (λ k d less. h (suc k) d (omega arith))
 
+-- cells within some dimensions lie within larger ones
+pub within_larger : (r c r' c' : ℕ) (cells : List Cell) → AreWithin r c cells → r ≤ r' → c ≤ c' → AreWithin r' c' cells
+within_larger r c r' c' cells within rows cols k d less =
+    let one = within k d less in (omega (arith, one.0, rows), omega (arith, one.1, cols))
+
 -- cells within the dimensions are never refused for their place
 pub never_outside : (r c : ℕ) (cells list : List Cell) → AreWithin r c list → cells ≡ list →
     first_fault r c 0 cells ≡ Some IndexOutOfRange → ⊥

@@ -13,3 +13,4 @@ pub mod FileLaws
 pub mod ListLaws
 pub mod VerdictMeaning
 pub mod BatchPartLaws
+pub mod GrowthLaws

@@ -2,7 +2,7 @@
 --     Setting         rows, columns, the cuts of each shard's layers, the number of shards, the limit on the accepted
 --                     total, and the most batches that may be accepted
 --     IsSetting       each value lies in its range: dimensions 1 to 2^60, cuts as layers have them, 1 to 64 shards, a
---                     limit of 1 to 2^64 - 1, and 1 to 1,000,000 batches
+--                     limit of 1 to 2^64 - 1, and 1 to 2^30 batches
 --     FirstFails      the first of the values, in this order, that lies outside its range
 use Rattle.std.specs.Prelude.{◌≡◌, ℕ, ◌-◌, ◌<◌, ◌≤◌, ◌^◌, List, ◌++◌, length, take, replicate, refl}
 use Rattle.std.specs.Coded.{Coded, code_by, coded×, coded_ℕ, coded_list}
@@ -40,7 +40,7 @@ abbrev pub HasLimit : Setting → Type 0
 HasLimit v = 1 ≤ v.limit
 
 abbrev pub HasBatches : Setting → Type 0
-HasBatches v = (1 ≤ v.max_batches) × (v.max_batches ≤ 1000000)
+HasBatches v = (1 ≤ v.max_batches) × (v.max_batches ≤ 2 ^ 30)
 
 pub record IsSetting (v : Setting) : Type 0 where
   pub dims : HasDimensions v

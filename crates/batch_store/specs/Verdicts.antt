@@ -3,13 +3,15 @@
 --         the verdict as a program finds it: if the batch's client and number stand in the list, what is kept at their
 --         first place, if cells and total agree in number, else NumberReused; else OverTotal where the list's total and
 --         the batch's pass the limit; else BookFull where the list has as many entries as it may; else Fresh
+--     AllFresh limit most es more
+--         each of these is Fresh after the list and those before it
 --     IsVerdict limit most es b r
 --         the same told by what each verdict means, in any order
 --     coded_entry, total_of_entries
 --         how entries are told apart, and the totals of a list of them together
 -- All numbers are whole numbers: no sum wraps.
 use Rattle.std.specs.Prelude.{◌≡◌, ℕ, ◌+◌, ◌<◌, ◌≤◌, Bool, ◌==◌, ◌&&◌, nat_lt, nat_le, if◌then◌else◌, List, [], ◌∷◌}
-use Rattle.std.specs.Prelude.{length, take, map, position, slice_index_or, slice_get, Option, Some, None, Contains}
+use Rattle.std.specs.Prelude.{◌++◌, length, take, map, position, slice_index_or, slice_get, Option, Some, None, Contains}
 use Rattle.std.specs.Prelude.{refl}
 use Rattle.std.specs.Coded.{Coded, code_by, coded×, coded_ℕ}
 use Rattle.batch_store.specs.declared.verdict.Entry.{Entry}
@@ -52,6 +54,11 @@ verdict_at limit most es b None = verdict_on_new limit most (length es) (total_o
 
 abbrev pub verdict_of : ℕ → ℕ → List Entry → Entry → Verdict
 verdict_of limit most es b = verdict_at limit most es b (position (same_pair b) es)
+
+-- each of these entries is of a fresh batch after those before it
+abbrev pub AllFresh : ℕ → ℕ → List Entry → List Entry → Type 0
+AllFresh limit most es [] = Unit {0}
+AllFresh limit most es (e ∷ more) = (verdict_of limit most es e ≡ Fresh) × AllFresh limit most (es ++ e ∷ []) more
 
 abbrev pub pair_of : Entry → ℕ × ℕ
 pair_of e = (e.client, e.number)

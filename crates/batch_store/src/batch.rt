@@ -52,12 +52,13 @@ impl Model for Batch {
     ghost invariant = { λ a. a.total ≡ total_of a.matrix.counts };
 }
 
-// The matrix of a file's cells, which lie within its dimensions.
-fn file_matrix(alloc: Global, file: &MmFile) -> Result<Hyper, BatchFault>
-    ensures ok { IfOk result (λ m. m ≡ matrix file.now.rows file.now.cols (built_of file.now.cells.items)) }
+// The matrix of a file's cells in the setup's dimensions: they lie within the file's, which are no larger.
+fn file_matrix(alloc: Global, setup: &Setup, file: &MmFile) -> Result<Hyper, BatchFault>
+    requires { Fits setup.now file.now }
+    ensures ok { IfOk result (λ m. m ≡ matrix setup.now.rows setup.now.cols (built_of file.now.cells.items)) }
     ensures err { IfErr result (RefusesCells file.now.cells.items) }
 {
-    match Hyper::build(alloc, file.rows, file.cols, &file.cells) {
+    match Hyper::build(alloc, setup.rows(), setup.cols(), &file.cells) {
         Ok(m) => Ok(m),
         Err(BuildFault::Memory) => Err(BatchFault::Memory),
         Err(BuildFault::IndexOutOfRange) => unreachable!(),
@@ -66,12 +67,13 @@ fn file_matrix(alloc: Global, file: &MmFile) -> Result<Hyper, BatchFault>
 }
 
 impl Batch {
-    /// The batch of a file's cells, ready to be shared: its matrix is built from them once, and nothing else of the
-    /// file is kept. Takes the time of `Hyper::build`.
+    /// The batch of a file's cells, ready to be shared: its matrix has the setup's dimensions, also where the file's
+    /// are smaller. It is built from the cells once, and nothing else of the file is kept. Takes the time of
+    /// `Hyper::build`.
     ///
     /// # Errors
     ///
-    /// - `DimensionsDiffer`: the file's dimensions aren't the setup's. This is judged first.
+    /// - `DimensionsTooLarge`: the file has more rows or more columns than the setup. This is judged first.
     /// - `SumTooLarge`: the counts together pass 2^64 - 1. This is judged before any growth.
     /// - `Memory`: a growth was refused.
     pub fn make(
@@ -86,10 +88,10 @@ impl Batch {
         ensures fits { OnOk result (Fits setup.now file.now × (cell_total file.now.cells.items < 2 ^ 64)) }
         ensures err { IfErr result (RefusesFile setup.now file.now) }
     {
-        if file.rows != setup.rows() || file.cols != setup.cols() {
-            return Err(BatchFault::DimensionsDiffer);
+        if file.rows > setup.rows() || file.cols > setup.cols() {
+            return Err(BatchFault::DimensionsTooLarge);
         }
-        let matrix = file_matrix(alloc, file)?;
+        let matrix = file_matrix(alloc, setup, file)?;
         let total = matrix.total();
         let batch = Batch {
             client,

@@ -17,7 +17,7 @@ pub enum SetupFault {
     /// The limit on the total is 0.
     #[error("BadLimit")]
     BadLimit,
-    /// The most batches are outside 1 to 1,000,000.
+    /// The most batches are outside 1 to 2^30.
     #[error("BadBatches")]
     BadBatches,
 }
@@ -28,9 +28,9 @@ pub enum BatchFault {
     /// A growth was refused.
     #[error("no memory for a batch")]
     Memory,
-    /// The file's dimensions aren't the setup's.
-    #[error("the dimensions aren't those of the setup")]
-    DimensionsDiffer,
+    /// The file has more rows or more columns than the setup.
+    #[error("more rows or columns than the setup")]
+    DimensionsTooLarge,
     /// The counts of all cells together pass 2^64 - 1.
     #[error("the counts pass 2^64 - 1")]
     SumTooLarge,
@@ -66,4 +66,25 @@ pub enum ShardFault {
     /// The shard's total and that of the batch's part together pass the limit.
     #[error("the total passes the limit")]
     Over,
+}
+
+/// Why what was accepted under one setup isn't what another accepts. The faults are judged in this order, and `Memory`
+/// last. `has` is what the list or its setup has.
+#[derive(Clone, Copy, Debug, PartialEq, Eq, Error)]
+pub enum GrowthFault {
+    /// The setup has fewer rows than the matrices.
+    #[error("the matrices have {has} rows")]
+    Rows { has: u64 },
+    /// The setup has fewer columns than the matrices.
+    #[error("the matrices have {has} columns")]
+    Cols { has: u64 },
+    /// The accepted total passes the limit.
+    #[error("the accepted total is {has}")]
+    Limit { has: u64 },
+    /// More batches were accepted than the setup allows.
+    #[error("{has} batches were accepted")]
+    Batches { has: u64 },
+    /// A growth was refused.
+    #[error("no memory for the matrices")]
+    Memory,
 }

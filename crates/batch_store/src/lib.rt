@@ -24,6 +24,8 @@ mod fault;
 mod fold_place;
 mod folded;
 mod given;
+mod growth;
+mod growth_laws;
 mod laws;
 mod limits;
 mod line;
@@ -42,8 +44,12 @@ pub use batch_sum::with_batches;
 pub use book::{Book, ReleasedBatches};
 pub use book_fold::BookFold;
 pub use book_list::BookList;
-pub use fault::{BatchFault, CellsFault, SetupFault, ShardFault};
+pub use fault::{BatchFault, CellsFault, GrowthFault, SetupFault, ShardFault};
 pub use fold_place::ShardFold;
+pub use growth_laws::{
+    a_growth_has_one_outcome, grown_lists_keep_all, larger_setups_answer_the_same,
+    lists_grow_to_the_last,
+};
 pub use laws::{
     a_part_is_no_more_than_the_whole, fresh_batches_fit, no_cell_lies_below_shard_zero,
     one_shard_more, records_grow_by_a_part, records_hold_the_part, shards_have_all,

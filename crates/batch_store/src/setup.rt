@@ -88,7 +88,7 @@ impl Setup {
     ///   greater than the one before it.
     /// - `shards`: how many there are, from 1 to 64.
     /// - `limit`: the greatest total of all counts that may be accepted, from 1 to 2^64 - 1.
-    /// - `max_batches`: the most batches that may be accepted, from 1 to 1,000,000.
+    /// - `max_batches`: the most batches that may be accepted, from 1 to 2^30.
     ///
     /// # Errors
     ///
@@ -170,7 +170,7 @@ impl Setup {
         self.limit
     }
 
-    /// The most batches that may be accepted, from 1 to 1,000,000.
+    /// The most batches that may be accepted, from 1 to 2^30.
     pub fn max_batches(&self) -> u64
         ensures value { result ≡ self.now.max_batches }
         ensures kept { IsSetting self.now }

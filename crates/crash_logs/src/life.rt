@@ -11,7 +11,8 @@ use batch_store::{Batch, BookList};
 use log_blocks::LogKind;
 use log_desk::Log;
 use log_folder::LogFolder;
-use log_start::{StartFault, Started, start_log};
+use log_start::{LogOwner, StartFault, Started, start_log};
+use snap_file::{Identity, NO_WINDOW};
 use std::cell::RefCell;
 use std::random::RandomSource;
 use std::sync::Arc;
@@ -26,6 +27,20 @@ pub struct Life<'a> {
     log: StoredLog<CrashDisk<'a>>,
     pub bounds: Bounds,
 }
+
+/// The book of the logs.
+const BOOK: Identity = Identity {
+    book_high: 0x0011_2233_4455_6677,
+    book_low: 0x8899_aabb_ccdd_eeff,
+    window: NO_WINDOW,
+};
+
+/// Its snapshot, beside which a log needn't be there.
+const OWNER: LogOwner = LogOwner {
+    known: BOOK,
+    drawn: BOOK,
+    must_be_there: false,
+};
 
 /// What becomes of a group.
 #[derive(Clone, Copy, PartialEq, Eq)]
@@ -97,7 +112,12 @@ fn start_stored<'a>(
     requires { folder.old.failures ≡ 0 }
 {
     let known = plan.list_of(rt, saved(world))?;
-    let Started { log, list } = match start_log(folder, plan.alloc, &plan.setup, known) {
+    let Started {
+        log,
+        list,
+        identity: _,
+        setup: _,
+    } = match start_log(folder, plan.alloc, &plan.setup, &OWNER, known) {
         Ok(started) => started,
         Err(fault) if is_of_a_call(fault) && is_met(world) => return Ok(None),
         Err(fault) => return Err(Stop::Refused(fault)),
@@ -121,7 +141,7 @@ fn rotate<'a>(
     if folder.failures() > 1000 {
         return Ok(());
     }
-    let mut new = match begin_stored(folder, plan.alloc, &plan.setup, list) {
+    let mut new = match begin_stored(folder, plan.alloc, &plan.setup, OWNER.known, list) {
         Ok(new) => new,
         Err(StoredFault::Memory) => return Err(Stop::Memory),
         Err(StoredFault::File(_)) => return Ok(()),

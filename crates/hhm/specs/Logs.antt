@@ -4,10 +4,11 @@ use Rattle.std.specs.Prelude.{ℕ}
 use Rattle.hhm.specs.Reports.{log_kind_status}
 use Rattle.log_start.specs.declared.fault.StartFault.{StartFault}
 use Rattle.log_start.specs.declared.fault.StartFault.TheVariants.{Log, SetupDiffers, Gap, LinkDiffers, EntryDiffers}
-use Rattle.log_start.specs.declared.fault.StartFault.TheVariants.{NotFresh, Memory}
+use Rattle.log_start.specs.declared.fault.StartFault.TheVariants.{NotFresh, Memory, OtherBook}
 
 abbrev pub log_status : StartFault → ℕ
 log_status (Log fault) = log_kind_status fault.kind
+log_status OtherBook = 3
 log_status SetupDiffers = 2
 log_status (Gap first) = 3
 log_status LinkDiffers = 3

@@ -10,12 +10,16 @@ use Rattle.mm_sum.specs.declared.fault.TextsFault.TheVariants as texts
 use Rattle.hhm.specs.declared.numbers.ListFault.{ListFault}
 use Rattle.hhm.specs.declared.numbers.ListFault.TheVariants as list
 use Rattle.hhm.specs.declared.report.Fault.{Fault}
-use Rattle.hhm.specs.declared.report.Fault.TheVariants.{BadNumber, BadPath, SamePath, Setup}
-use Rattle.hhm.specs.declared.report.Fault.TheVariants.{Sum, Texts, Check, Fold, Export}
+use Rattle.hhm.specs.declared.report.Fault.TheVariants.{BadNumber, BadPath, BadLog, BadOut, Exists, LogBusy, NoRandom}
+use Rattle.hhm.specs.declared.report.Fault.TheVariants.{SamePath, Setup, Sum, Texts, Check, Fold, Make, Export}
 use Rattle.snap_export.specs.declared.fault.ExportFault.{ExportFault}
 use Rattle.snap_export.specs.declared.fault.ExportFault.TheVariants as export
 use Rattle.snap_report.specs.declared.fault.CheckFault.{CheckFault}
 use Rattle.snap_report.specs.declared.fault.CheckFault.TheVariants as check
+use Rattle.snap_report.specs.declared.making.MakeFault.{MakeFault}
+use Rattle.snap_report.specs.declared.making.MakeFault.TheVariants as make
+use Rattle.snap_file.specs.declared.fault.SaveFault.{SaveFault}
+use Rattle.snap_file.specs.declared.fault.SaveFault.TheVariants as save
 use Rattle.snap_report.specs.declared.fault.FoldFault.{FoldFault}
 use Rattle.snap_report.specs.declared.fault.FoldFault.TheVariants as fold
 use Rattle.snap_report.specs.declared.kept_log.LogFileFault.{LogFileFault}
@@ -86,6 +90,13 @@ fold_status fold.Memory = 5
 fold_status (fold.Save fault) = 4
 fold_status (fold.Output fault) = 4
 
+abbrev pub make_status : MakeFault → ℕ
+make_status (make.Read fault) = check_status fault
+make_status make.HasWindow = 3
+make_status (make.Save save.Memory) = 5
+make_status (make.Save fault) = 4
+make_status (make.Output fault) = 4
+
 abbrev pub export_status : ExportFault → ℕ
 export_status (export.File at fault) = file_status fault
 export_status (export.DimensionsDiffer at) = 3
@@ -97,10 +108,16 @@ export_status (export.Save fault) = 4
 abbrev pub fault_status : Fault → ℕ
 fault_status BadNumber = 2
 fault_status BadPath = 2
+fault_status BadLog = 2
+fault_status BadOut = 2
+fault_status Exists = 4
+fault_status LogBusy = 4
+fault_status NoRandom = 4
 fault_status SamePath = 2
 fault_status (Setup fault) = 2
 fault_status (Sum fault) = sum_status fault
 fault_status (Texts fault) = texts_status fault
 fault_status (Check fault) = check_status fault
 fault_status (Fold fault) = fold_status fault
+fault_status (Make fault) = make_status fault
 fault_status (Export fault) = export_status fault

@@ -5,7 +5,7 @@ use Rattle.hhm.specs.Logs.{log_status}
 use Rattle.hhm.specs.Reports.{file_status}
 use Rattle.socket_server.specs.declared.fault.ServerFault.{ServerFault}
 use Rattle.socket_server.specs.declared.fault.ServerFault.TheVariants.{Memory, BadWorkers, NoAddress, SamePath}
-use Rattle.socket_server.specs.declared.fault.ServerFault.TheVariants.{BadSnapshotPath, BadLogPath}
+use Rattle.socket_server.specs.declared.fault.ServerFault.TheVariants.{BadSnapshotPath, BadLogPath, NeedsLog}
 use Rattle.socket_server.specs.declared.fault.ServerFault.TheVariants.{BadCompactors, SnapshotDiffers, File, Log, RecordsDiffer}
 
 abbrev pub server_status : ServerFault → ℕ
@@ -16,6 +16,7 @@ server_status BadLogPath = 2
 server_status SamePath = 2
 server_status BadCompactors = 2
 server_status SnapshotDiffers = 2
+server_status (NeedsLog snapshot) = 2
 server_status (File fault) = file_status fault
 server_status (Log fault) = log_status fault
 server_status Memory = 5

@@ -62,32 +62,77 @@ A fault is one line on standard error:
   hhm: log: NotFound, OpenFailed   status 4
   hhm: log: KIND at page N         status 3 (KIND Read: 4)
   hhm: settings: LogDiffers        status 2
-  hhm: log: LinkDiffers            status 3
+  hhm: log: OtherBook, LinkDiffers status 3
   hhm: log: Gap, EntryDiffers, NotFresh at batch N  status 3
   hhm: output failed after N bytes status 4
   hhm: memory                      status 5";
 
-const FOLD_ABOUT: &str = "Fold the batches of a snapshot into one matrix, and save it again";
+const FOLD_ABOUT: &str = "Fold the batches of a snapshot, and of its log, into one matrix";
 
 const FOLD_HELP: &str = "\
-Reads the snapshot in the file PATH to its end, folds all its batches into one
-matrix, saves it under PATH, and writes one line to standard output:
+Reads the snapshot in the file PATH to its end, and with --log the log beside it
+as a start does, folds all their batches into one matrix, saves it under PATH,
+and writes one line to standard output:
 
   folded F total T
 
 F is how many batches are folded then, and T their total. A server that starts
-from the file answers as before: cells, rows, exports, its status, and batches
-that are sent again, with their first replies. Of each batch only its client, its
-number, its number of cells and its total are kept. It holds the lock of the file
-PATH.lock: while a server with this snapshot runs, it is told Busy.
+from the file, and with --log from that log, answers as before: cells, rows,
+exports, its status, and batches that are sent again, with their first replies.
+Of each batch only its client, its number, its number of cells and its total are
+kept. The log stays as it is. The locks of both are held: while a server with
+one of them runs, it is told Busy.
+
+With --to the fold is made in the file OUT, a copy of the same book, and PATH
+and the log stay as they are; no lock is taken. With --log, or where PATH goes
+with a log, OUT goes with that log too, and starts with it alone.
 
 A fault is one line on standard error. Where the output failed, the file is
 saved already; else it is as it was (after Rename it may be saved):
 
-  hhm: settings: BadPath (PATH)    status 2 (it ends in .new or .lock)
+  hhm: settings: BadPath (PATH), (LOG), (OUT)  status 2 (it ends in .new or .lock)
+  hhm: settings: LogDiffers        status 2
+  hhm: file: Exists (OUT)          status 4
   hhm: file: NotFound, OpenFailed, Busy   status 4
+  hhm: log: NotFound, OpenFailed, Busy    status 4
   hhm: snapshot: KIND              status 3 (KIND Read: 4)
+  hhm: log: KIND at page N         status 3 (KIND Read: 4)
+  hhm: log: OtherBook, LinkDiffers status 3
+  hhm: log: Gap, EntryDiffers, NotFresh at batch N  status 3
   hhm: file: Create, Write, Sync, Rename  status 4
+  hhm: output failed after N bytes status 4
+  hhm: memory                      status 5";
+
+const FORK_ABOUT: &str = "Make a snapshot of a new book of what a snapshot and its log have";
+
+const FORK_HELP: &str = "\
+Reads the snapshot in the file PATH, and with --log the log beside it, as a start
+does, makes a new snapshot of both in the file OUT, and writes one line to
+standard output:
+
+  forked B total T
+
+B is how many batches it has, and T their total. OUT is of a new book, which no
+other file has, and goes with no log. Use it for a copy that lives beside the
+original (a mirror, a test, a second server), and to go on where a log is lost
+for ever. Without --log a line on standard error says where batches may be
+missing. PATH and the log stay as they are; their locks are held.
+
+A fault is one line on standard error, and OUT isn't made, but where the output
+failed:
+
+  hhm: settings: BadPath (OUT), (PATH), (LOG)  status 2 (it ends in .new or .lock)
+  hhm: settings: LogDiffers        status 2
+  hhm: file: Exists (OUT)          status 4
+  hhm: file: NotFound, OpenFailed, Busy   status 4
+  hhm: log: NotFound, OpenFailed, Busy    status 4
+  hhm: snapshot: KIND              status 3 (KIND Read: 4)
+  hhm: snapshot: HasWindow         status 3
+  hhm: log: KIND at page N         status 3 (KIND Read: 4)
+  hhm: log: OtherBook, LinkDiffers status 3
+  hhm: log: Gap, EntryDiffers, NotFresh at batch N  status 3
+  hhm: file: Create, Write, Sync, Rename  status 4
+  hhm: no random numbers           status 4
   hhm: output failed after N bytes status 4
   hhm: memory                      status 5";
 
@@ -142,6 +187,47 @@ fn check_command<'a>(alloc: Global) -> Result<Command<'a>, AllocError> {
     check.arg(log)
 }
 
+// `fold`, which reads a log too, and may make a file.
+fn fold_command<'a>(alloc: Global) -> Result<Command<'a>, AllocError> {
+    let log = Arg::new(alloc, "log")
+        .long("log")
+        .value_name("LOG")
+        .value_parser(ValueParser::NonEmptyString)
+        .help("The file of the log to fold with it");
+    let to = Arg::new(alloc, "to")
+        .long("to")
+        .value_name("OUT")
+        .value_parser(ValueParser::NonEmptyString)
+        .help("The file to make in place of PATH, where nothing may be");
+    let fold = snapshot_command(alloc, "fold", FOLD_ABOUT, FOLD_HELP)?;
+    fold.arg(log)?.arg(to)
+}
+
+// `fork`, which makes a file.
+fn fork_command<'a>(alloc: Global) -> Result<Command<'a>, AllocError> {
+    let out = Arg::new(alloc, "out")
+        .value_name("OUT")
+        .required(true)
+        .value_parser(ValueParser::NonEmptyString)
+        .help("The file to make, where nothing may be");
+    let path = Arg::new(alloc, "path")
+        .value_name("PATH")
+        .required(true)
+        .value_parser(ValueParser::NonEmptyString)
+        .help("The snapshot's file");
+    let log = Arg::new(alloc, "log")
+        .long("log")
+        .value_name("LOG")
+        .value_parser(ValueParser::NonEmptyString)
+        .help("The file of the log that goes with it");
+    Command::new(alloc, "fork")
+        .about(FORK_ABOUT)
+        .after_help(FORK_HELP)
+        .arg(out)?
+        .arg(path)?
+        .arg(log)
+}
+
 // The program without a word.
 fn program<'a>(alloc: Global) -> Result<Command<'a>, AllocError> {
     let program = Command::new(alloc, "hhm").bin_name("hhm")?;
@@ -167,7 +253,8 @@ pub fn command<'a>(alloc: Global) -> Result<Command<'a>, AllocError> {
     let mut hhm = with(program(alloc)?, sum_command(alloc))?;
     hhm = with(hhm, check_command(alloc))?;
     hhm = with(hhm, export_command(alloc))?;
-    hhm = with(hhm, snapshot_command(alloc, "fold", FOLD_ABOUT, FOLD_HELP))?;
+    hhm = with(hhm, fold_command(alloc))?;
+    hhm = with(hhm, fork_command(alloc))?;
     hhm = with(hhm, top_command(alloc))?;
     hhm = with(hhm, list_command(alloc))?;
     hhm = with(hhm, degrees_command(alloc))?;

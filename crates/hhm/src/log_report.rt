@@ -13,12 +13,14 @@ pub fn status_of_log(fault: &StartFault) -> u8
     match fault {
         StartFault::Log(log) => log_kind_status(log.kind),
         StartFault::SetupDiffers => 2,
-        StartFault::Gap { .. }
+        StartFault::OtherBook
+        | StartFault::Gap { .. }
         | StartFault::LinkDiffers
         | StartFault::EntryDiffers { .. }
         | StartFault::NotFresh { .. } => 3,
         StartFault::Memory => 5,
-        StartFault::Create
+        StartFault::NotFound
+        | StartFault::Create
         | StartFault::Write
         | StartFault::Sync
         | StartFault::Rename

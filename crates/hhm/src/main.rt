@@ -34,14 +34,18 @@ use clap::{ArgMatches, Error};
 use mm_sum::{run_sum, run_sum_of};
 use progress::{Entries, ProgressLine, Watched};
 use snap_export::{NamedFolder, run_compact, run_export_of};
-use snap_file::{LockedFile, NamedFile};
+use snap_file::{FileFault, Identity, LockedFile, NamedFile, PathLock, lock, lock_existing};
 use snap_query::{run_degrees, run_list, run_top};
-use snap_report::{NamedLog, run_check, run_check_with_log, run_export, run_fold};
+use snap_report::{
+    CheckFault, MakeFault, NamedLog, NewFile, NewSnapshot, ReplacedFile, run_check,
+    run_check_with_log, run_export, run_fold, run_fold_to, run_fold_with_log, run_fork,
+    run_fork_with_log,
+};
 use socket_server::{ServerFault, Settings, is_reserved};
 use std::alloc::AllocError;
 use std::io::IsTerminal;
 use std::process::ExitCode;
-use std::{env, io};
+use std::{env, fs, io};
 
 /// A line on a terminal, where there is one.
 type Shown<'a> = Option<ProgressLine<'a, HostRuntime>>;
@@ -103,7 +107,7 @@ fn run(rt: &HostRuntime) -> Result<Outcome, Fault> {
 fn run_matches(rt: &HostRuntime, matches: &ArgMatches) -> Result<Outcome, Fault> {
     match matches.subcommand() {
         Some(("serve", serve)) => {
-            let settings = settings_of(rt.alloc(), serve)?;
+            let settings = without_links(rt, settings_of(rt.alloc(), serve)?)?;
             if has_one_place(rt, &settings) {
                 return Err(Fault::SamePath);
             }
@@ -111,12 +115,49 @@ fn run_matches(rt: &HostRuntime, matches: &ArgMatches) -> Result<Outcome, Fault>
         }
         Some(("sum", given)) => Ok(Outcome::Ended(run_sum_word(rt, given))),
         Some(("export", given)) => Ok(Outcome::Ended(run_export_word(rt, given))),
+        Some(("fold", given)) => {
+            run_fold_word(rt, given)?;
+            Ok(Outcome::Ended(ExitCode::SUCCESS))
+        }
+        Some(("fork", given)) => {
+            run_fork_word(rt, given)?;
+            Ok(Outcome::Ended(ExitCode::SUCCESS))
+        }
         Some((word, given)) => {
             run_word(rt, word, given)?;
             Ok(Outcome::Ended(ExitCode::SUCCESS))
         }
         None => Ok(Outcome::Ended(ExitCode::SUCCESS)),
     }
+}
+
+/// The settings with the paths of the files that links lead to. The names of files beside them are made of these, so
+/// that each who starts them by another link makes the same.
+fn without_links(rt: &HostRuntime, settings: Settings) -> Result<Settings, Fault> {
+    let snapshot = match &settings.snapshot {
+        Some(path) => Some(resolved(rt, path.as_str())?),
+        None => None,
+    };
+    let log = match &settings.log {
+        Some(path) => Some(resolved(rt, path.as_str())?),
+        None => None,
+    };
+    Ok(Settings {
+        snapshot,
+        log,
+        ..settings
+    })
+}
+
+/// A path, or where it is a link that of the file that it leads to.
+fn resolved(rt: &HostRuntime, path: &str) -> Result<String, AllocError> {
+    let is_link = matches!(fs::symlink_metadata(rt, path), Ok(found) if found.is_symlink());
+    if is_link {
+        if let Ok(target) = fs::canonicalize(rt, path) {
+            return target.as_str().to_string(rt.alloc());
+        }
+    }
+    path.to_string(rt.alloc())
 }
 
 /// Does what a word asks for that is given the path of a snapshot. How far the reading has come is said on a terminal.
@@ -255,8 +296,6 @@ fn run_snapshot_word(
     let mut out = Counted::new(rt.stdout());
     match word {
         "check" => run_check(rt.alloc(), &mut NamedFile::new(rt, path, line), &mut out)?,
-        "fold" if is_reserved(path) => return Err(Fault::BadPath),
-        "fold" => run_fold(rt.alloc(), &mut LockedFile::new(rt, path, line), &mut out)?,
         _ => run_query_word(rt, word, path, given, line)?,
     }
     Ok(())
@@ -296,6 +335,161 @@ fn run_check_word(
     let outcome = run_check_with_log(rt.alloc(), &mut file, &mut log, &mut out);
     clear(&mut log_line);
     outcome?;
+    Ok(())
+}
+
+/// Folds the snapshot under a path, and the log beside it where one is named, into that file or a new one. How far the
+/// reading of the snapshot has come is said on a terminal.
+fn run_fold_word(rt: &HostRuntime, given: &ArgMatches) -> Result<(), Fault> {
+    let path = path_to_read(rt, given.get_str("path").unwrap_or(""), Fault::BadPath)?;
+    let log = match given.get_str("log") {
+        Some(log) => Some(path_to_read(rt, log, Fault::BadLog)?),
+        None => None,
+    };
+    let log_path = log.as_ref().map(String::as_str);
+    let mut line = progress_line(rt, rt.stderr().is_terminal(), Entries::Cells);
+    let outcome = match (given.get_str("to"), log_path) {
+        (Some(out_path), _) => fold_to(rt, path.as_str(), log_path, out_path, &mut line),
+        (None, Some(log_path)) => fold_with_log(rt, path.as_str(), log_path, &mut line),
+        (None, None) => fold(rt, path.as_str(), &mut line),
+    };
+    clear(&mut line);
+    outcome
+}
+
+/// The path of a file that is read where others are written, without links. None of its names may be one that hhm makes
+/// beside a file: such a file would be replaced.
+fn path_to_read(rt: &HostRuntime, path: &str, fault: Fault) -> Result<String, Fault> {
+    let found = resolved(rt, path)?;
+    if is_reserved(path) || is_reserved(found.as_str()) {
+        return Err(fault);
+    }
+    Ok(found)
+}
+
+/// Folds the snapshot under a path in place.
+fn fold(rt: &HostRuntime, path: &str, line: &mut Shown<'_>) -> Result<(), Fault> {
+    let mut out = Counted::new(rt.stdout());
+    run_fold(rt.alloc(), &mut LockedFile::new(rt, path, line), &mut out)?;
+    Ok(())
+}
+
+/// Folds a snapshot and a log into the snapshot's file, of which the locks are held.
+fn fold_with_log(
+    rt: &HostRuntime,
+    path: &str,
+    log_path: &str,
+    line: &mut Shown<'_>,
+) -> Result<(), Fault> {
+    // Where there is no log nothing is made, and no lock's file either.
+    let locks = match lock_log(rt, log_path)? {
+        Some(log_lock) => lock_snapshot(rt, path)?.map(|lock| (lock, log_lock)),
+        None => None,
+    };
+    let mut new = ReplacedFile::new(rt, path, locks);
+    fold_into(rt, path, log_path, &mut new, line)
+}
+
+/// Folds a snapshot, and a log where one is named, into a new file.
+fn fold_to(
+    rt: &HostRuntime,
+    path: &str,
+    log_path: Option<&str>,
+    out_path: &str,
+    line: &mut Shown<'_>,
+) -> Result<(), Fault> {
+    let mut new = free_file(rt, out_path)?;
+    let Some(log_path) = log_path else {
+        let mut out = Counted::new(rt.stdout());
+        let mut file = NamedFile::new(rt, path, line);
+        run_fold_to(rt.alloc(), &mut file, &mut new, &mut out)?;
+        return Ok(());
+    };
+    fold_into(rt, path, log_path, &mut new, line)
+}
+
+/// Folds a snapshot and a log into a file.
+fn fold_into<N: NewSnapshot>(
+    rt: &HostRuntime,
+    path: &str,
+    log_path: &str,
+    new: &mut N,
+    line: &mut Shown<'_>,
+) -> Result<(), Fault> {
+    let mut out = Counted::new(rt.stdout());
+    let mut log_line = progress_line(rt, false, Entries::Cells);
+    let mut file = NamedFile::new(rt, path, line);
+    let mut log = NamedLog::new(rt, log_path, &mut log_line);
+    run_fold_with_log(rt.alloc(), &mut file, &mut log, new, &mut out)?;
+    Ok(())
+}
+
+/// The file that is to be made under a path, where nothing is yet.
+fn free_file<'a>(rt: &'a HostRuntime, path: &'a str) -> Result<NewFile<'a, HostRuntime>, Fault> {
+    if is_reserved(path) {
+        return Err(Fault::BadOut);
+    }
+    let new = NewFile::new(rt, path);
+    if new.is_taken() {
+        return Err(Fault::Exists);
+    }
+    Ok(new)
+}
+
+/// The lock of a snapshot's path, where nothing may be yet, as far as it can be had.
+fn lock_snapshot(rt: &HostRuntime, path: &str) -> Result<Option<PathLock>, Fault> {
+    match lock(rt, rt.alloc(), path) {
+        Ok(lock) => Ok(lock),
+        Err(fault) => Err(Fault::Make(MakeFault::Read(CheckFault::from(fault)))),
+    }
+}
+
+/// The lock of a log's path, as far as it can be had.
+fn lock_log(rt: &HostRuntime, path: &str) -> Result<Option<PathLock>, Fault> {
+    match lock_existing(rt, rt.alloc(), path) {
+        Ok(lock) => Ok(lock),
+        Err(FileFault::Busy) => Err(Fault::LogBusy),
+        // What is wrong with it, a reading reports.
+        Err(_) => Ok(None),
+    }
+}
+
+/// Makes a snapshot of a new book of the one under a path, and of the log beside it where one is named. How far the
+/// reading of the snapshot has come is said on a terminal.
+fn run_fork_word(rt: &HostRuntime, given: &ArgMatches) -> Result<(), Fault> {
+    let mut new = free_file(rt, given.get_str("out").unwrap_or(""))?;
+    let Some(book) = Identity::draw(rt) else {
+        return Err(Fault::NoRandom);
+    };
+    let mut line = progress_line(rt, rt.stderr().is_terminal(), Entries::Cells);
+    let outcome = fork(rt, given, book, &mut new, &mut line);
+    clear(&mut line);
+    outcome
+}
+
+/// Makes it in a new file.
+fn fork(
+    rt: &HostRuntime,
+    given: &ArgMatches,
+    book: Identity,
+    new: &mut NewFile<'_, HostRuntime>,
+    line: &mut Shown<'_>,
+) -> Result<(), Fault> {
+    let path = given.get_str("path").unwrap_or("");
+    let mut out = Counted::new(rt.stdout());
+    let snapshot = path_to_read(rt, path, Fault::BadPath)?;
+    let mut file = LockedFile::new(rt, snapshot.as_str(), line);
+    let Some(given_log) = given.get_str("log") else {
+        if run_fork(rt.alloc(), &mut file, book, new, &mut out)? {
+            let _ = eprintln!(rt; "hhm: {path} goes with a log: batches after it may be missing");
+        }
+        return Ok(());
+    };
+    let log_path = path_to_read(rt, given_log, Fault::BadLog)?;
+    let _lock = lock_log(rt, log_path.as_str())?;
+    let mut log_line = progress_line(rt, false, Entries::Cells);
+    let mut log = NamedLog::new(rt, log_path.as_str(), &mut log_line);
+    run_fork_with_log(rt.alloc(), &mut file, &mut log, book, new, &mut out)?;
     Ok(())
 }
 

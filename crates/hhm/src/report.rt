@@ -1,8 +1,9 @@
 //! What the program says of a fault, and the status that it ends with.
 ghost use Rattle.std.specs.Prelude.{◌≡◌};
-ghost use Rattle.hhm.specs.Reports.{export_status, fault_of_list, fault_status, log_kind_status, texts_status};
+ghost use Rattle.hhm.specs.Reports.{check_status, export_status, fault_of_list, fault_status, make_status};
+ghost use Rattle.hhm.specs.Reports.{log_kind_status, texts_status};
 ghost use Rattle.mm_sum.specs.declared.fault.SumFault.TheVariants.{Memory, Output};
-ghost use Rattle.hhm.specs.declared.report.Fault.TheVariants.{Setup, Sum, Texts, Check, Fold, Export};
+ghost use Rattle.hhm.specs.declared.report.Fault.TheVariants.{Setup, Sum, Texts, Check, Fold, Make, Export};
 
 use crate::numbers::ListFault;
 use batch_store::SetupFault;
@@ -11,8 +12,8 @@ use log_blocks::LogKind;
 use mm_sum::{SumFault, TextsFault};
 use mm_text::{MmFault, MmKind};
 use snap_export::ExportFault;
-use snap_file::{FileFault, SnapFault};
-use snap_report::{CheckFault, FoldFault, LogFileFault};
+use snap_file::{FileFault, SaveFault, SnapFault};
+use snap_report::{CheckFault, FoldFault, LogFileFault, MakeFault};
 use std::alloc::AllocError;
 use std::process::ExitCode;
 use thiserror::Error;
@@ -23,9 +24,24 @@ pub enum Fault {
     /// A number or a list of an option doesn't have its form.
     #[error("settings: BadNumber")]
     BadNumber,
-    /// The path that `fold` is to write ends in `.new` or `.lock`: beside a file hhm makes others of these names.
+    /// The path of the snapshot of `fold` or `fork` ends in `.new` or `.lock`: beside a file hhm makes others so named.
     #[error("settings: BadPath (PATH)")]
     BadPath,
+    /// The path of the log of `fold` or `fork` ends so.
+    #[error("settings: BadPath (LOG)")]
+    BadLog,
+    /// The path that `fork` or `fold` is to make ends so.
+    #[error("settings: BadPath (OUT)")]
+    BadOut,
+    /// Something is under the path that `fork` or `fold` is to make.
+    #[error("file: Exists (OUT)")]
+    Exists,
+    /// Another holds the lock of a log's path.
+    #[error("log: Busy")]
+    LogBusy,
+    /// The system gives no random numbers, so no identity of a new book can be drawn.
+    #[error("no random numbers")]
+    NoRandom,
     /// The paths of a server's snapshot and log lead to one name in one folder.
     #[error("settings: SamePath")]
     SamePath,
@@ -44,6 +60,9 @@ pub enum Fault {
     /// `fold` saved no snapshot, or didn't tell it.
     #[error(transparent)]
     Fold(FoldFault),
+    /// `fork`, or a `fold` with a log or into a new file, made no snapshot, or didn't report it.
+    #[error(transparent)]
+    Make(MakeFault),
     /// `export` of several snapshots wrote no text, or not all of it, or it saved no compact matrix.
     #[error(transparent)]
     Export(ExportFault),
@@ -86,6 +105,14 @@ impl From<FoldFault> for Fault {
 
     fn from(fault: FoldFault) -> Fault {
         Fault::Fold(fault)
+    }
+}
+
+impl From<MakeFault> for Fault {
+    ghost from_gives = { λ fault e. e ≡ Make fault };
+
+    fn from(fault: MakeFault) -> Fault {
+        Fault::Make(fault)
     }
 }
 
@@ -173,6 +200,36 @@ fn export_status(fault: ExportFault) -> u8
     }
 }
 
+/// The status of a fault of `check`.
+fn check_status(fault: CheckFault) -> u8
+    ensures { result ≡ check_status fault }
+{
+    match fault {
+        CheckFault::File(FileFault::Snap(SnapFault::Read)) => 4,
+        CheckFault::File(FileFault::Snap(_)) => 3,
+        CheckFault::File(_) => 4,
+        CheckFault::Memory => 5,
+        CheckFault::Output(_) => 4,
+        CheckFault::Log(LogFileFault::Log(fault)) => log_kind_status(fault.kind),
+        CheckFault::Log(_) => 4,
+        CheckFault::LogDiffers => 2,
+        CheckFault::Join(_) => 3,
+    }
+}
+
+/// The status where no snapshot was made: of what is read as of `check`.
+fn make_status(fault: MakeFault) -> u8
+    ensures { result ≡ make_status fault }
+{
+    match fault {
+        MakeFault::Read(fault) => check_status(fault),
+        MakeFault::HasWindow => 3,
+        MakeFault::Save(SaveFault::Memory) => 5,
+        MakeFault::Save(_) => 4,
+        MakeFault::Output(_) => 4,
+    }
+}
+
 impl Fault {
     /// The status: 2 for settings, 3 for what the text says, 4 for a device, 5 for memory.
     pub fn status(self) -> u8
@@ -181,6 +238,11 @@ impl Fault {
         match self {
             Fault::BadNumber => 2,
             Fault::BadPath => 2,
+            Fault::BadLog => 2,
+            Fault::BadOut => 2,
+            Fault::Exists => 4,
+            Fault::LogBusy => 4,
+            Fault::NoRandom => 4,
             Fault::SamePath => 2,
             Fault::Setup(_) => 2,
             Fault::Sum(SumFault::BadCuts) => 2,
@@ -197,15 +259,8 @@ impl Fault {
             Fault::Sum(SumFault::Output(_)) => 4,
             Fault::Sum(SumFault::Memory) => 5,
             Fault::Texts(fault) => texts_status(fault),
-            Fault::Check(CheckFault::File(FileFault::Snap(SnapFault::Read))) => 4,
-            Fault::Check(CheckFault::File(FileFault::Snap(_))) => 3,
-            Fault::Check(CheckFault::File(_)) => 4,
-            Fault::Check(CheckFault::Memory) => 5,
-            Fault::Check(CheckFault::Output(_)) => 4,
-            Fault::Check(CheckFault::Log(LogFileFault::Log(fault))) => log_kind_status(fault.kind),
-            Fault::Check(CheckFault::Log(_)) => 4,
-            Fault::Check(CheckFault::LogDiffers) => 2,
-            Fault::Check(CheckFault::Join(_)) => 3,
+            Fault::Check(fault) => check_status(fault),
+            Fault::Make(fault) => make_status(fault),
             Fault::Fold(FoldFault::File(FileFault::Snap(SnapFault::Read))) => 4,
             Fault::Fold(FoldFault::File(FileFault::Snap(_))) => 3,
             Fault::Fold(FoldFault::File(_)) => 4,

@@ -1,7 +1,7 @@
 //! The options of `serve`, as `clap` reads them.
 
 use clap::builder::ValueParser;
-use clap::{Arg, ArgAction, Command};
+use clap::{Arg, ArgAction, ArgGroup, Command};
 use std::alloc::{AllocError, Global};
 
 const SERVE_ABOUT: &str =
@@ -38,15 +38,17 @@ after a Stop is over.
 A fault is one line on standard error:
 
   hhm: settings: NAME              status 2
+  hhm: settings: NeedsLog (PATH: a log goes with it)   status 2
   hhm: snapshot: KIND              status 3 (KIND Read: 4)
   hhm: file: KIND                  status 4
   hhm: log: KIND at page N         status 3 (KIND Read: 4)
   hhm: log: KIND at batch N        status 3
-  hhm: log: LinkDiffers            status 3
-  hhm: log: Create, Write, Sync, Rename, Busy   status 4
+  hhm: log: OtherBook, LinkDiffers status 3
+  hhm: log: NotFound, Create, Write, Sync, Rename, Busy   status 4
   hhm: log: NotDurable (N batches) status 4
   hhm: listen failed: ADDRESS      status 4
   hhm: no worker                   status 4
+  hhm: no random numbers           status 4
   hhm: output failed after N bytes status 4
   hhm: memory                      status 5
   hhm: records differ              status 6";
@@ -72,18 +74,21 @@ const LEFT_OUT: ServeOption = ServeOption {
     help: "",
 };
 
-/// A word of `serve` that is there or not, and that is of use with another alone.
+/// A word of `serve` that is there or not, and that is of use with another alone, or with one of a group.
 struct ServeFlag {
     name: &'static str,
     with: &'static str,
     help: &'static str,
 }
 
+/// The group of the options that name a file.
+const FILES: &str = "files";
+
 static FLAGS: &[ServeFlag] = &[
     ServeFlag {
         name: "must-load",
-        with: "snapshot",
-        help: "Don't start where there is no snapshot",
+        with: FILES,
+        help: "Don't start where neither the snapshot nor the log is there",
     },
     ServeFlag {
         name: "must-save",
@@ -159,7 +164,7 @@ static OPTIONS: &[ServeOption] = &[
         name: "max-batches",
         value: "N",
         default: Some("1000000"),
-        help: "The highest number of accepted batches, 1 to 1000000",
+        help: "The highest number of accepted batches, 1 to 1073741824",
         ..LEFT_OUT
     },
     ServeOption {
@@ -244,6 +249,13 @@ fn flag_of<'a>(alloc: Global, flag: &'a ServeFlag) -> Result<Arg<'a>, AllocError
         .requires_arg(flag.with)
 }
 
+fn files_group<'a>(alloc: Global) -> Result<ArgGroup<'a>, AllocError> {
+    ArgGroup::new(alloc, FILES)
+        .multiple(true)
+        .arg("snapshot")?
+        .arg("log")
+}
+
 /// The word `serve`.
 pub fn serve_command<'a>(alloc: Global) -> Result<Command<'a>, AllocError> {
     let mut command = Command::new(alloc, "serve")
@@ -255,5 +267,5 @@ pub fn serve_command<'a>(alloc: Global) -> Result<Command<'a>, AllocError> {
     for flag in FLAGS {
         command = command.arg(flag_of(alloc, flag)?)?;
     }
-    command.arg(events_arg(alloc))
+    command.arg(events_arg(alloc))?.group(files_group(alloc)?)
 }

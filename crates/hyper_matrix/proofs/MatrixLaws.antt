@@ -1,5 +1,6 @@
 -- What the matrix's fields come to.
-use Rattle.std.proofs.Common.{T, ◌≡◌, ℕ, zero, suc, ◌+◌, ◌<◌, List, [], ◌∷◌, map, length, length-append, get_or, ◌-◌}
+use Rattle.std.proofs.Common.{T, ◌≡◌, ℕ, zero, suc, ◌+◌, ◌<◌, ◌≤◌, List, [], ◌∷◌, map, length, length-append, get_or}
+use Rattle.std.proofs.Common.{◌-◌}
 use Rattle.std.proofs.Common.{sym, ◌∙◌, ap, subst, refl, arith}
 use Rattle.std.specs.List.{AllByRecursion}
 use Rattle.std.proofs.lemmas.List.{append-nil}
@@ -29,6 +30,29 @@ keeps_none r c blocks ends is_rows is_cols none no_ends =
 pub keeps_with : (r c s : ℕ) (blocks blocks' : List Rows) (ends : List ℕ) → Holds r c s blocks → blocks' ≡ blocks →
     ends ≡ ends_from 0 blocks' → Keeps r c s blocks ends
 keeps_with r c s blocks blocks' ends h same told = record { holds = h; told = told ∙ ap (ends_from 0) same }
+
+-- places that lie within dimensions lie within larger ones
+within_wider : (r c r' c' : ℕ) (es : List (Place × ℕ)) → r ≤ r' → c ≤ c' → AllByRecursion (LiesWithin r c) es →
+    AllByRecursion (LiesWithin r' c') es
+within_wider r c r' c' [] more_r more_c h = tt
+within_wider r c r' c' (e ∷ es) more_r more_c h =
+    let row = h.0.0 in
+    let col = h.0.1 in
+    ((omega arith, omega arith), within_wider r c r' c' es more_r more_c h.1)
+
+pub keeps_wider : (r c r' c' s : ℕ) (blocks : List Rows) (ends : List ℕ) → Keeps r c s blocks ends →
+    (r ≤ r') × IsDimension r' → (c ≤ c') × IsDimension c' → Keeps r' c' s blocks ends
+keeps_wider r c r' c' s blocks ends k rows cols = record {
+  holds = record {
+    is_rows = rows.1;
+    is_cols = cols.1;
+    are_blocks = k.holds.are_blocks;
+    sorted = k.holds.sorted;
+    within = within_wider r c r' c' (all_cells blocks) rows.0 cols.0 k.holds.within;
+    kept = k.holds.kept;
+  };
+  told = k.told;
+}
 
 -- the kept numbers are those of the map
 pub kept_total : (r c s : ℕ) (blocks : List Rows) → Holds r c s blocks → s ≡ total (shared_counts blocks)

@@ -15,6 +15,7 @@ mod iter;
 mod part;
 mod parts;
 mod reduce;
+mod widen;
 
 use crate::block::Block;
 use crate::blocks::count_ends;

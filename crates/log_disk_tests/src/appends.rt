@@ -7,6 +7,7 @@ use log_desk::{Log, RoomFault};
 use log_disk::MemoryDisk;
 use log_folder::MemoryLogFolder;
 use log_page::PAGE;
+use snap_file::Identity;
 use std::alloc::Global;
 use std::process::Abort;
 use std::random::RandomSource;
@@ -27,7 +28,7 @@ pub fn begun<R: Abort + RandomSource>(
     let setup = small_setup().expect(rt, "a setup");
     let book = Book::new(rt, alloc, &setup).expect(rt, "memory");
     let list = book.book_list(alloc).expect(rt, "memory");
-    begin_stored(folder, alloc, &setup, &list).expect(rt, "a log")
+    begin_stored(folder, alloc, &setup, Identity::unknown(), &list).expect(rt, "a log")
 }
 
 /// Makes room for the block of a batch, and writes it.

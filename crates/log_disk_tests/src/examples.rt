@@ -132,6 +132,17 @@ fn head_of(behind: [u64; 4], check: u64) -> [u8; PAGE] {
     page
 }
 
+/// The same of the book 00112233445566778899aabbccddeeff, with nothing before it.
+pub fn head_of_book() -> [u8; PAGE] {
+    let mut page = head_of([0x0000_0000_000a_0000, 0, 0, 0], 0x9ec0_e3d8);
+    put_numbers(
+        &mut page,
+        82,
+        &[0x0011_2233_4455_6677, 0x8899_aabb_ccdd_eeff],
+    );
+    page
+}
+
 /// The head of the setup with nothing before it.
 pub fn head() -> [u8; PAGE] {
     head_of([0x0000_0000_000a_0000, 0, 0, 0], 0x9ed9_5ae1)

@@ -126,19 +126,14 @@ fn damaged_logs_are_refused(rt: HostRuntime) -> Result<(), AllocError> {
     expect_refused(&rt, rt.alloc(), &rows)
 }
 
-// Each number of the setup that may differ.
+// A head of more rows or of more columns than the setup of the start.
 #[test]
-fn logs_of_another_setup_are_refused(rt: HostRuntime) -> Result<(), AllocError> {
+fn logs_of_a_larger_setup_are_refused(rt: HostRuntime) -> Result<(), AllocError> {
     let alloc = rt.alloc();
     let bytes = joined(alloc, &[head(), b1()])?;
     let setups = [
-        Setup::new(4, 3, &[2, 4], 2, 100, 10),
-        Setup::new(3, 4, &[2, 4], 2, 100, 10),
-        Setup::new(3, 3, &[2, 5], 2, 100, 10),
-        Setup::new(3, 3, &[2], 2, 100, 10),
-        Setup::new(3, 3, &[2, 4], 1, 100, 10),
-        Setup::new(3, 3, &[2, 4], 2, 101, 10),
-        Setup::new(3, 3, &[2, 4], 2, 100, 11),
+        Setup::new(2, 3, &[2, 4], 2, 100, 10),
+        Setup::new(3, 2, &[2, 4], 2, 100, 10),
     ];
     for made in setups {
         let setup = made.expect(&rt, "a setup");

@@ -2,12 +2,15 @@
 ghost use Rattle.std.specs.Prelude.{◌≡◌, List, []};
 
 use crate::disk::Untold;
-use crate::examples::{b1, b2, b12, head, head_behind, head_behind_both, list_of, small_setup};
+use crate::examples::{
+    b1, b2, b12, head, head_behind, head_behind_both, head_of_book, list_of, small_setup,
+};
 use crate::folder::{Call, TestFolder};
 use batch_store::{BookList, Setup};
 use log_disk::{LogDisk, MemoryDisk};
 use log_page::PAGE;
-use log_start::{StartFault, Started, start_log};
+use log_start::{LogOwner, StartFault, Started, start_log};
+use snap_file::{Identity, NO_WINDOW};
 use std::alloc::{AllocError, Global};
 use std::io::Eprint;
 use std::process::Abort;
@@ -85,6 +88,28 @@ fn made_of(rt: &impl Abort, alloc: Global, started: &Started<Untold>) -> Made {
     }
 }
 
+/// Two books.
+const BOOK: Identity = Identity {
+    book_high: 0x0011_2233_4455_6677,
+    book_low: 0x8899_aabb_ccdd_eeff,
+    window: NO_WINDOW,
+};
+
+const OTHER: Identity = Identity {
+    book_high: 0,
+    book_low: 1,
+    window: NO_WINDOW,
+};
+
+/// An owner whose snapshot doesn't say whose it is, of a book that isn't known.
+fn nobody() -> LogOwner {
+    LogOwner {
+        known: Identity::unknown(),
+        drawn: Identity::unknown(),
+        must_be_there: false,
+    }
+}
+
 /// Starts the log of a folder behind a snapshot of these clients and counts.
 pub fn start_in<R: Abort + RandomSource>(
     rt: &R,
@@ -95,8 +120,22 @@ pub fn start_in<R: Abort + RandomSource>(
 ) -> Result<Made, StartFault>
     requires { folder.old.failed ≡ 0 }
 {
+    start_of(rt, alloc, setup, &nobody(), known, folder)
+}
+
+/// Starts the log so for an owner.
+pub fn start_of<R: Abort + RandomSource>(
+    rt: &R,
+    alloc: Global,
+    setup: &Setup,
+    owner: &LogOwner,
+    known: &[(u64, u64)],
+    folder: &mut TestFolder,
+) -> Result<Made, StartFault>
+    requires { folder.old.failed ≡ 0 }
+{
     let list = list_of(rt, alloc, setup, known);
-    let started = start_log(folder, alloc, setup, list)?;
+    let started = start_log(folder, alloc, setup, owner, list)?;
     Ok(made_of(rt, alloc, &started))
 }
 
@@ -152,6 +191,45 @@ fn logs_are_begun(rt: HostRuntime) {
     let both = [(7, 5), (8, 3)];
     let two = start(&rt, alloc, &both, None);
     assert!(rt; has_made(&rt, &two, &both, &head_behind_both(), &BEGINS));
+}
+
+// A log that is begun is of the snapshot's book, else of the drawn one.
+#[test]
+fn begun_logs_say_whose_they_are(rt: HostRuntime) {
+    let alloc = rt.alloc();
+    let setup = small_setup(&rt);
+    let unknown = Identity::unknown();
+    let page = head_of_book();
+    for (known, drawn) in [(BOOK, OTHER), (unknown, BOOK)] {
+        let owner = LogOwner {
+            known,
+            drawn,
+            must_be_there: false,
+        };
+        let mut folder = TestFolder::new(alloc, None, None, None);
+        let made = start_of(&rt, alloc, &setup, &owner, &[], &mut folder).expect(&rt, "a start");
+        assert!(rt; holds_at(&rt, &known, made.bytes.as_slice() == page.as_slice()));
+    }
+}
+
+// A log of another book isn't gone on with, and none is begun where one must be there.
+#[test]
+fn logs_of_others_and_missing_logs_are_refused(rt: HostRuntime) {
+    let alloc = rt.alloc();
+    let setup = small_setup(&rt);
+    let owner = LogOwner {
+        known: OTHER,
+        drawn: OTHER,
+        must_be_there: true,
+    };
+    let others = Some(file_of(&rt, alloc, &head_of_book()));
+    let mut folder = TestFolder::new(alloc, others, None, None);
+    let refused = start_of(&rt, alloc, &setup, &owner, &[], &mut folder).err();
+    assert!(rt; same(&rt, &refused, &Some(StartFault::OtherBook)));
+    let mut folder = TestFolder::new(alloc, None, None, None);
+    let refused = start_of(&rt, alloc, &setup, &owner, &[], &mut folder).err();
+    assert!(rt; same(&rt, &refused, &Some(StartFault::NotFound)));
+    assert!(rt; same(&rt, &&folder.calls[..], &&GOES_ON[..]));
 }
 
 #[test]
@@ -257,7 +335,7 @@ fn append_one<R: Abort + RandomSource>(
     requires { folder.old.failed ≡ 0 }
 {
     let list = list_of(rt, alloc, setup, &[]);
-    let started = start_log(folder, alloc, setup, list)?;
+    let started = start_log(folder, alloc, setup, &nobody(), list)?;
     let mut log = started.log;
     let mark = log.writer.mark();
     assert!(rt; mark.next == 1 && mark.page == 2 && log.writer.room() == 0);

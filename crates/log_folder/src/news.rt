@@ -23,6 +23,8 @@ pub enum FileCall {
     SyncFolder,
     /// A look after a sync: the file was moved, removed or cut.
     Look,
+    /// A look before a log is begun anew: the log of another book is under the path.
+    OtherBook,
 }
 
 impl FileCall {
@@ -39,6 +41,7 @@ impl FileCall {
             FileCall::Rename => "Rename",
             FileCall::SyncFolder => "SyncFolder",
             FileCall::Look => "Look",
+            FileCall::OtherBook => "OtherBook",
         }
     }
 }
@@ -130,6 +133,12 @@ impl LogNews {
     pub(crate) fn note_failure(&self, call: FileCall, error: &io::Error) {
         let error = error.raw_os_error();
         note(&self.failed, Some(FailedCall { call, error }));
+    }
+
+    /// The log of another book is under the path, so none is begun anew there.
+    pub fn note_other_book(&self) {
+        let call = FileCall::OtherBook;
+        note(&self.failed, Some(FailedCall { call, error: None }));
     }
 
     /// This call has failed, and the log with it.

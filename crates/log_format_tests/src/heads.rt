@@ -105,6 +105,25 @@ fn heads_say_whose_they_are(rt: HostRuntime) {
     assert!(rt; holds_at(&rt, &"as version 2", spelled(&before) == head()));
 }
 
+// A version, as the upper half of eight bytes; the most batches; and the fault. The checksum is wrong, so it is the fault
+// where the setup may allow so many batches.
+const ALLOWED: [(u64, u64, LogKind); 4] = [
+    (1 << 32, 1_000_000, LogKind::HeadCheck),
+    (1 << 32, 1_000_001, LogKind::BadHead),
+    (2 << 32, 1 << 30, LogKind::HeadCheck),
+    (2 << 32, (1 << 30) + 1, LogKind::BadHead),
+];
+
+#[test]
+fn heads_allow_batches_by_their_version(rt: HostRuntime) {
+    for (version, most, why) in ALLOWED {
+        let mut page = head();
+        put_numbers(&mut page, 8, &[version]);
+        put_numbers(&mut page, 54, &[most]);
+        assert!(rt; same_at(&rt, &(version, most), &decode_head(&page).err(), &Some(why)));
+    }
+}
+
 // A byte of a head, what it becomes, and the fault: of the mark, the version, the number of shards, and the checksum.
 const FAULTS: [(usize, u8, LogKind); 4] = [
     (7, 0, LogKind::BadMark),

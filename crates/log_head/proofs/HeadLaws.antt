@@ -5,7 +5,7 @@ use Rattle.log_blocks.specs.declared.fault.LogKind.{LogKind}
 use Rattle.log_blocks.specs.declared.fault.LogKind.TheVariants.{Read, Memory, Truncated, BadMark, BadVersion, BadHead}
 use Rattle.log_blocks.specs.declared.fault.LogKind.TheVariants.{HeadCheck, Damaged, BadBlock, TooLong}
 use Rattle.log_head.specs.declared.head.LogHead.{LogHead}
-use Rattle.log_head.specs.Heads.{head_in, filler, HasCheck, IsHead, HasHead, RefusesPage}
+use Rattle.log_head.specs.Heads.{head_in, version_in, filler, HasCheck, IsHeadIn, HasHead, RefusesPage}
 use Rattle.log_head.proofs.ReadAgain.{Says, says}
 use Rattle.std.proofs.Common.{◌^◌, ◌<◌, arith}
 use Rattle.snap_file.specs.Origins.{unknown, IsIdentity}
@@ -17,7 +17,7 @@ unknown_fits i e = subst IsIdentity (sym e) (record { high = omega arith; low = 
 
 says_of : (p : List ℕ) (h : LogHead) → HasHead p h → Says p h
 says_of p h has = subst (λ (l : List ℕ). Says l h) (sym has.spelled)
-    (says has.page_version (has.low, has.high) h has.is has.old)
+    (says has.page_version (has.low, has.high) h has.is has.old has.most)
 
 pub one_head : (p : List ℕ) (h g : LogHead) → HasHead p h → HasHead p g → h ≡ g
 one_head p h g a b = sym (says_of p h a).head_is ∙ (says_of p g b).head_is
@@ -30,7 +30,8 @@ no_fault p h BadMark has refused = refused (says_of p h has).mark_is
 no_fault p h BadVersion has refused = refused.1 (says_of p h has).version_is
 no_fault p h BadHead has refused =
     let said = says_of p h has in
-    not_blank p said.blank (refused.1 (subst (λ (g : LogHead). IsHead g) (sym said.head_is) has.is)).1
+    not_blank p said.blank
+    (refused.1 (subst (IsHeadIn (version_in p)) (sym said.head_is) (has.is, said.most))).1
 no_fault p h HeadCheck has refused = refused.1 (says_of p h has).check
 no_fault p h Read has refused = refused
 no_fault p h Memory has refused = refused

@@ -18,7 +18,7 @@ use Rattle.log_page.specs.Pages.{is_blank}
 use Rattle.log_head.specs.declared.head.LogHead.{LogHead}
 use Rattle.log_head.specs.Heads.{mark, old_version, version, setup_bytes, field_bytes, fields_end, front_of, u64_in}
 use Rattle.log_head.specs.Heads.{head_page, head_page_in, named_bytes, named_length, version_in, identity_in, HasHead}
-use Rattle.log_head.specs.Heads.{IsKnownVersion}
+use Rattle.log_head.specs.Heads.{IsKnownVersion, most_batches_of}
 use Rattle.log_head.specs.Heads.{u32_in}
 use Rattle.log_head.specs.Heads.{cuts_of, cut_count, behind_cuts, head_in, filler, HasCheck, IsHead}
 use Rattle.log_head.proofs.PageParts.{zeros_blank}
@@ -79,6 +79,7 @@ pub record Says (p : List ℕ) (h : LogHead) : Type 0 where
   pub mark_is : u64_in p 0 ≡ mark
   pub version_is : IsKnownVersion (version_in p)
   pub head_is : head_in p ≡ h
+  pub most : h.setup.max_batches ≤ most_batches_of (version_in p)
   pub check : HasCheck p
   pub blank : is_blank (filler p) ≡ true
 
@@ -99,7 +100,7 @@ few_named v = either (v == version)
     either false = omega arith
 
 module _ (v : ℕ) (known : IsKnownVersion v) (h : LogHead) (is : IsHead h)
-    (old : v < version → h.identity ≡ unknown.identity) where
+    (old : v < version → h.identity ≡ unknown.identity) (allowed : h.setup.max_batches ≤ most_batches_of v) where
   cuts : List ℕ
   cuts = h.setup.cuts
 
@@ -288,6 +289,7 @@ module _ (v : ℕ) (known : IsKnownVersion v) (h : LogHead) (is : IsHead h)
     mark_is = mark_read;
     version_is = subst IsKnownVersion (sym version_read) known;
     head_is = head_read;
+    most = subst (λ (x : ℕ). h.setup.max_batches ≤ most_batches_of x) (sym version_read) allowed;
     check = check_read;
     blank = filler_read;
   }
@@ -300,5 +302,6 @@ written_head h is = record {
   low = omega arith;
   high = omega arith;
   old = λ less. absurd (omega arith);
+  most = is.setup.batches.1;
   spelled = refl;
 }

@@ -162,12 +162,13 @@ few_cuts p is = subst (λ (i : ℕ). i ≤ 7) (length-cuts_of (cut_count p) (dro
 pub spelled : (p : List ℕ) → IsBytes p → length p ≡ 4096 → HasFields p → HasCheck p → is_blank (filler p) ≡ true →
     HasHead p (head_in p)
 spelled p bytes len fields check blank = record {
-  is = fields.1;
+  is = fields.1.0;
   page_version = version_in p;
   low = fields.0.1.0;
   high = fields.0.1.1;
   old = old_is (version_in p == version) refl;
-  spelled = page_is p bytes len (few_cuts p fields.1) fields.0.0 check blank;
+  most = fields.1.1;
+  spelled = page_is p bytes len (few_cuts p fields.1.0) fields.0.0 check blank;
 }
   where
     old_is : (test : Bool) → (version_in p == version) ≡ test → version_in p < version →

@@ -9,7 +9,7 @@ use Rattle.batch_store.specs.declared.fault.SetupFault.TheVariants.{BadBatches}
 use Rattle.snap_file.specs.Spelling.{IsBytes}
 use Rattle.log_page.specs.Pages.{is_blank}
 use Rattle.log_head.specs.declared.head.LogHead.{LogHead}
-use Rattle.log_head.specs.Heads.{HasCheck, HasHead, HasVersion, IsHead, behind_cuts, cut_count, cuts_of, filler}
+use Rattle.log_head.specs.Heads.{HasCheck, HasHead, HasVersion, IsHead, IsHeadIn, behind_cuts, cut_count, cuts_of, filler}
 use Rattle.log_head.specs.Heads.{head_in, identity_in, version, version_in}
 use Rattle.snap_file.specs.Origins.{identity, unknown}
 use Rattle.snap_file.specs.declared.origin.Identity.{Identity}
@@ -57,7 +57,7 @@ head_refused p h same refused is =
     let own : IsHead h = subst IsHead (sym same) is in
     refused own.first own.total
 
-pub page_read : (p : List ℕ) (h : LogHead) → IsBytes p → length p ≡ 4096 → HasVersion p → h ≡ head_in p → IsHead h →
-    HasCheck p → is_blank (filler p) ≡ true → HasHead p h
+pub page_read : (p : List ℕ) (h : LogHead) → IsBytes p → length p ≡ 4096 → HasVersion p → h ≡ head_in p →
+    IsHeadIn (version_in p) h → HasCheck p → is_blank (filler p) ≡ true → HasHead p h
 page_read p h bytes len front same is check blank =
-    subst (HasHead p) (sym same) (spelled p bytes len (front, subst IsHead same is) check blank)
+    subst (HasHead p) (sym same) (spelled p bytes len (front, subst (IsHeadIn (version_in p)) same is) check blank)

@@ -2,6 +2,7 @@
 --     head_page h         the page of a head, as it is written
 --     head_page_in v h    the same in version v
 --     head_in p           the head of which a page has the fields, wherever they lie within their ranges or not
+--     IsHeadIn v h        the fields of a head lie within the ranges that they have in version v
 --     HasHead p h         the page is that of this head, whose fields lie within their ranges
 --     RefusesPage p k     by cases: what is so where a page has this fault, and that no earlier one stands
 use Rattle.std.specs.Prelude.{◌≡◌, ◌≢◌, ℕ, zero, suc, ◌+◌, ◌-◌, ◌*◌, ◌<◌, ◌≤◌, ◌^◌, true, false, List, [], ◌∷◌, ◌++◌}
@@ -11,7 +12,7 @@ use Rattle.std.specs.Int.{w8, w32, w64, from_be_bytes}
 use Rattle.crc32c.specs.Remainders.{checksum_of}
 use Rattle.batch_store.specs.Setups.{Setting, setting, IsSetting}
 use Rattle.snap_file.specs.Origins.{identity, unknown, IsIdentity}
-use Rattle.snap_file.specs.Spelling.{number_bytes, identity_bytes}
+use Rattle.snap_file.specs.Spelling.{number_bytes, identity_bytes, old_most_batches}
 use Rattle.snap_file.specs.declared.origin.Identity.{Identity}
 use Rattle.log_page.specs.Pages.{is_blank}
 use Rattle.log_blocks.specs.declared.fault.LogKind.{LogKind}
@@ -29,6 +30,10 @@ old_version = 1
 
 abbrev pub version : ℕ
 version = 2
+
+-- the most batches that a setup may allow in a head of this version
+abbrev pub most_batches_of : ℕ → ℕ
+most_batches_of v = if v == version then 2 ^ 30 else old_most_batches
 
 -- the fields of a setup, as a snapshot has them, and those of a head
 abbrev pub setup_bytes : Setting → List ℕ
@@ -119,12 +124,17 @@ pub record IsHead (h : LogHead) : Type 0 where
   pub link : h.link < 2 ^ 32
   pub named : IsIdentity h.identity
 
+-- and the setup allows no more batches than the version
+abbrev pub IsHeadIn : ℕ → LogHead → Type 0
+IsHeadIn v h = IsHead h × (h.setup.max_batches ≤ most_batches_of v)
+
 pub record HasHead (p : List ℕ) (h : LogHead) : Type 0 where
   pub is : IsHead h
   pub page_version : ℕ
   pub low : old_version ≤ page_version
   pub high : page_version ≤ version
   pub old : page_version < version → h.identity ≡ unknown.identity
+  pub most : h.setup.max_batches ≤ most_batches_of page_version
   pub spelled : p ≡ head_page_in page_version h
 
 abbrev pub HasMark : List ℕ → Type 0
@@ -137,13 +147,14 @@ abbrev pub HasVersion : List ℕ → Type 0
 HasVersion p = HasMark p × IsKnownVersion (version_in p)
 
 abbrev pub HasFields : List ℕ → Type 0
-HasFields p = HasVersion p × IsHead (head_in p)
+HasFields p = HasVersion p × IsHeadIn (version_in p) (head_in p)
 
 -- BadHead: a field is out of its range, or all else is right and there are other bytes than 00 behind the fields.
 abbrev pub RefusesPage : List ℕ → LogKind → Type 0
 RefusesPage p BadMark = HasMark p → ⊥
 RefusesPage p BadVersion = HasMark p × (IsKnownVersion (version_in p) → ⊥)
-RefusesPage p BadHead = HasVersion p × (IsHead (head_in p) → HasCheck p × (is_blank (filler p) ≡ false))
+RefusesPage p BadHead =
+    HasVersion p × (IsHeadIn (version_in p) (head_in p) → HasCheck p × (is_blank (filler p) ≡ false))
 RefusesPage p HeadCheck = HasFields p × (HasCheck p → ⊥)
 RefusesPage p Read = ⊥
 RefusesPage p Memory = ⊥

@@ -6,20 +6,20 @@ ghost use Rattle.std.specs.Int.{w32, w64, from_be_bytes};
 ghost use Rattle.batch_store.specs.Setups.{IsSetting};
 ghost use Rattle.snap_file.specs.Spelling.{IsBytes};
 ghost use Rattle.log_page.specs.Pages.{is_blank};
-ghost use Rattle.log_head.specs.Heads.{HasCheck, HasFields, HasHead, HasMark, HasVersion, IsHead, RefusesPage};
+ghost use Rattle.log_head.specs.Heads.{HasCheck, HasFields, HasHead, HasMark, HasVersion, IsHeadIn, RefusesPage};
 ghost use Rattle.log_head.specs.Heads.{cut_count, cuts_of, behind_cuts, filler, head_in, setup_in, u32_in, u64_in};
-ghost use Rattle.log_head.specs.Heads.{version_in, identity_in, fields_end, IsKnownVersion};
+ghost use Rattle.log_head.specs.Heads.{version_in, identity_in, fields_end, most_batches_of, IsKnownVersion};
 ghost use Rattle.snap_file.specs.Origins.{IsIdentity};
 ghost use Rattle.log_head.specs.declared.head.LogHead.{LogHead};
 ghost use Rattle.log_blocks.specs.declared.fault.LogKind.{LogKind};
 
 use crate::head::{CHECK_AT, LogHead, MARK, OLD_VERSION, VERSION};
-use batch_store::Setup;
+use batch_store::{MAX_BATCHES, Setup};
 use crc32c::crc32c;
 use layer_cascade::MAX_CUTS;
 use log_blocks::LogKind;
 use log_page::PAGE;
-use snap_file::Identity;
+use snap_file::{Identity, OLD_MAX_BATCHES};
 
 // The offset of the version, that of the number of cuts, how many bytes of fields follow the cuts in the old version, and
 // how many more there are in the version that is written.
@@ -102,6 +102,17 @@ fn setup_told(page: &[u8; PAGE], count: usize) -> Result<Setup, LogKind>
     }
 }
 
+// The most batches that a setup may allow in a head of this version.
+fn most_batches(version: u32) -> u64
+    ensures { result ≡ most_batches_of version }
+{
+    if version == VERSION {
+        MAX_BATCHES
+    } else {
+        OLD_MAX_BATCHES
+    }
+}
+
 // Whether what a head says of the batches before it lies within what its setup allows.
 fn fits_setup(head: &LogHead) -> bool
     ensures yes { result ≡ true → (head.now.first ≤ head.now.setup.max_batches) ×
@@ -156,14 +167,19 @@ fn head_of(page: &[u8; PAGE], count: usize, setup: Setup) -> LogHead
 
 // The head that a page of the right mark and version says, if all its fields lie within their ranges.
 fn head_told(page: &[u8; PAGE]) -> Result<LogHead, LogKind>
-    ensures ok { IfOk result (λ h. (h ≡ head_in page.now) × IsHead h) }
-    ensures err { IfErr result (λ kind. (kind ≡ LogKind.BadHead) × (IsHead (head_in page.now) → ⊥)) }
+    ensures ok { IfOk result (λ h. (h ≡ head_in page.now) × IsHeadIn (version_in page.now) h) }
+    ensures err { IfErr result (λ kind. (kind ≡ LogKind.BadHead) ×
+        (IsHeadIn (version_in page.now) (head_in page.now) → ⊥)) }
 {
     let count = u8_at(page, COUNT_AT) as usize;
     if count > MAX_CUTS {
         return Err(LogKind::BadHead);
     }
     let setup = setup_told(page, count)?;
+    let most = most_batches(u32_at(page, VERSION_AT));
+    if setup.max_batches() > most {
+        return Err(LogKind::BadHead);
+    }
     let head = head_of(page, count, setup);
     if fits_setup(&head) {
         Ok(head)

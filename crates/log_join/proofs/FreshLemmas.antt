@@ -10,11 +10,11 @@ use Rattle.std.proofs.lemmas.Bool.Decides.{nat_tests}
 use Rattle.batch_store.specs.declared.verdict.Entry.{Entry}
 use Rattle.batch_store.specs.declared.verdict.Verdict.{Verdict}
 use Rattle.batch_store.specs.declared.verdict.Verdict.TheVariants.{Fresh, OverTotal, BookFull}
-use Rattle.batch_store.specs.Verdicts.{verdict_of, verdict_at, same_pair, total_of_entries}
+use Rattle.batch_store.specs.Verdicts.{AllFresh, verdict_of, verdict_at, same_pair, total_of_entries}
 use Rattle.batch_store.proofs.VerdictLaws.{fresh_is, none_same, same_pair_flips, total_push}
 use Rattle.batch_store.proofs.FoldLaws.{found_nowhere}
 use Rattle.snap_file.specs.Spelling.{stands_in}
-use Rattle.log_join.specs.Joins.{AllFresh, StaleAt}
+use Rattle.log_join.specs.Joins.{StaleAt}
 
 none_stands : (b : Entry) (es : List Entry) → stands_in b.client b.number es ≡ false →
     AllByRecursion (λ (e : Entry). same_pair b e ≡ false) es

@@ -1,7 +1,7 @@
 -- A list with the batches of a log behind it.
 use Rattle.std.proofs.Common.{◌≡◌, ◌≢◌, ℕ, zero, suc, ◌+◌, ◌-◌, ◌<◌, ◌≤◌, List, [], ◌∷◌, ◌++◌, length, take, drop}
 use Rattle.std.proofs.Common.{slice_get}
-use Rattle.std.proofs.Common.{◌⊎◌, map, Some, None, refl, sym, ap, subst, ◌∙◌, append_assoc, append-nil}
+use Rattle.std.proofs.Common.{◌⊎◌, Some, sym, ap, subst, ◌∙◌, append_assoc, append-nil}
 use Rattle.std.proofs.Common.{length-append, length-take, inl, inr, arith}
 use Rattle.std.specs.Arc.{arc_value}
 use Rattle.std.proofs.lemmas.Bool.{cases_lt}
@@ -13,18 +13,19 @@ use Rattle.std.specs.declared.sync.Arc.{Arc}
 use Rattle.std.specs.Prelude.{Result, Ok, Err, OnOk, IfOk, IfErr}
 use Rattle.batch_store.specs.Batches.{Submission, entry_of, entries_of, values}
 use Rattle.batch_store.proofs.BookLaws.{length-entries_of}
-use Rattle.batch_store.specs.Accepted.{entries_in}
 use Rattle.batch_store.specs.Books.{Listing, listing, accepted_in, AreAccepted, HaveDims}
 use Rattle.batch_store.specs.Verdicts.{same_pair}
 use Rattle.std.specs.List.{IsDistinct}
 use Rattle.log_head.specs.declared.head.LogHead.{LogHead}
-use Rattle.log_lives.specs.Lives.{log, restored, IsTaken}
+use Rattle.log_lives.specs.Lives.{log, restored}
 use Rattle.log_lives.proofs.Prefixes.{prefix_push}
 use Rattle.batch_store.specs.declared.verdict.Verdict.TheVariants.{Fresh}
-use Rattle.batch_store.specs.Verdicts.{verdict_of}
+use Rattle.batch_store.specs.Growth.{AllLieIn, FitsIn, all_widened, widened}
+use Rattle.batch_store.specs.Verdicts.{AllFresh, verdict_of}
+use Rattle.batch_store.proofs.GrowthLaws.{all_lie_in, entries-widened}
 use Rattle.batch_store.proofs.BookLaws.{next_item}
-use Rattle.log_join.specs.Joins.{Agrees, AllFresh, DiffersAt, IsBeside, IsLinked, Joins, RefusesJoin, StaleAt}
-use Rattle.log_join.specs.Joins.{behind_end, joined, known_entries, log_behind}
+use Rattle.log_join.specs.Joins.{Agrees, DiffersAt, IsBeside, IsLinked, Joins, RefusesLists, StaleAt}
+use Rattle.log_join.specs.Joins.{behind_end, known_entries, log_behind}
 use Rattle.log_join.specs.declared.fault.JoinFault.{JoinFault}
 use Rattle.log_join.specs.declared.fault.JoinFault.TheVariants.{EntryDiffers, Memory, NotFresh}
 use Rattle.log_join.proofs.FreshLemmas.{all_fresh_more}
@@ -51,10 +52,11 @@ module _ (s : Setting) (v : Listing) (h : LogHead) (bs : List Submission) (list 
   first_long = let a = length-take h.first (known_entries v) in let b = beside.linked.no_gap in omega arith
 
   restored_same : (new : List Submission) → new ≡ behind_end (known_entries v) h bs →
-      list ≡ listing v.base v.folded (v.list ++ new) →
+      list ≡ listing v.base v.folded (v.list ++ all_widened s new) →
       known_entries list ≡ restored (known_entries v) (log_behind (known_entries v) h (entries_of bs))
   restored_same new is list_is =
-      ap known_entries list_is ∙ entries-joined v new
+      ap known_entries list_is ∙ entries-joined v (all_widened s new)
+      ∙ ap (λ (l : List Entry). known_entries v ++ l) (entries-widened s new)
       ∙ ap (λ (l : List Submission). known_entries v ++ entries_of l) is
       ∙ ap (λ (l : List Entry). known_entries v ++ l) (sym (drop-map entry_of (length (known_entries v) - h.first) bs))
       ∙ ap (λ (n : ℕ). known_entries v ++ drop (length (known_entries v) - n) (entries_of bs)) (sym first_long)
@@ -80,7 +82,7 @@ module _ (s : Setting) (v : Listing) (h : LogHead) (bs : List Submission) (list 
       (prefix_push (take h.first (known_entries v)) (drop h.first (known_entries v)))
 
   pub joins_by : (new : List Submission) → new ≡ behind_end (known_entries v) h bs →
-      list ≡ listing v.base v.folded (v.list ++ new) →
+      list ≡ listing v.base v.folded (v.list ++ all_widened s new) →
       AllFresh s.limit s.max_batches (known_entries v) (entries_of new) → AreAccepted s (accepted_in list) →
       Joins s v h bs list
   joins_by new is list_is fresh accepted = record {
@@ -93,7 +95,7 @@ module _ (s : Setting) (v : Listing) (h : LogHead) (bs : List Submission) (list 
     };
     fresh = subst (AllFresh s.limit s.max_batches (known_entries v))
         (ap entries_of is ∙ sym (drop-map entry_of (length (known_entries v) - h.first) bs)) fresh;
-    list_is = list_is ∙ ap (λ (l : List Submission). listing v.base v.folded (v.list ++ l)) is;
+    list_is = list_is ∙ ap (λ (l : List Submission). listing v.base v.folded (v.list ++ all_widened s l)) is;
     restored_is = restored_same new is list_is;
     accepted = accepted;
   }
@@ -118,56 +120,53 @@ parted_at [] i x here = absurd cc
 parted_at (y ∷ xs) zero x here = let e : y ≡ x = cc here in ap (λ z. z ∷ xs) e
 parted_at (y ∷ xs) (suc i) x here = ap (λ l. y ∷ l) (parted_at xs i x here)
 
-pub dims_at : (r c : ℕ) (list : List Submission) (i : ℕ) (b : Submission) → HaveDims r c list →
-    slice_get list i ≡ Some b → (b.matrix.rows ≡ r) × (b.matrix.cols ≡ c)
-dims_at r c [] i b h here = absurd cc
-dims_at r c (x ∷ xs) zero b h here =
-    let e : x ≡ b = cc here in
-    subst (λ (y : Submission). (y.matrix.rows ≡ r) × (y.matrix.cols ≡ c)) e (h.0, h.1)
-dims_at r c (x ∷ xs) (suc i) b h here = dims_at r c xs i b h.2 here
+module _ (s : Setting) (v old : Listing) (xs : List Submission) (i : ℕ) (b : Submission)
+    (told : old ≡ listing v.base v.folded (v.list ++ all_widened s (take i xs))) (here : slice_get xs i ≡ Some b) where
+  more_widened : all_widened s (take (i + 1) xs) ≡ all_widened s (take i xs) ++ widened s b ∷ []
+  more_widened = ap (all_widened s) (next_taken xs i b here) ∙ map-append (widened s) (take i xs) (b ∷ [])
 
-module _ (limit most : ℕ) (v old : Listing) (xs : List Submission) (i : ℕ) (b : Submission)
-    (told : old ≡ listing v.base v.folded (v.list ++ take i xs)) (here : slice_get xs i ≡ Some b) where
-  pub listed_more : (new : Listing) → new ≡ listing old.base old.folded (old.list ++ b ∷ []) →
-      new ≡ listing v.base v.folded (v.list ++ take (i + 1) xs)
+  pub listed_more : (new : Listing) → new ≡ listing old.base old.folded (old.list ++ widened s b ∷ []) →
+      new ≡ listing v.base v.folded (v.list ++ all_widened s (take (i + 1) xs))
   listed_more new is =
       is
-      ∙ (λ j. listing (told j).base (told j).folded ((told j).list ++ b ∷ []))
+      ∙ (λ j. listing (told j).base (told j).folded ((told j).list ++ widened s b ∷ []))
       ∙ ap (λ (l : List Submission). listing v.base v.folded l)
-      (append_assoc v.list (take i xs) (b ∷ [])
-      ∙ ap (λ (l : List Submission). v.list ++ l) (sym (next_taken xs i b here)))
+      (append_assoc v.list (all_widened s (take i xs)) (widened s b ∷ [])
+      ∙ ap (λ (l : List Submission). v.list ++ l) (sym more_widened))
 
   old_entries : known_entries old ≡ known_entries v ++ entries_of (take i xs)
-  old_entries = ap known_entries told ∙ entries-joined v (take i xs)
+  old_entries =
+      ap known_entries told ∙ entries-joined v (all_widened s (take i xs))
+      ∙ ap (λ (l : List Entry). known_entries v ++ l) (entries-widened s (take i xs))
 
   more_entries : entries_of (take (i + 1) xs) ≡ entries_of (take i xs) ++ entry_of b ∷ []
   more_entries = ap entries_of (next_taken xs i b here) ∙ map-append entry_of (take i xs) (b ∷ [])
 
-  pub fresh_more : AllFresh limit most (known_entries v) (entries_of (take i xs)) →
-      verdict_of limit most (known_entries old) (entry_of b) ≡ Fresh →
-      AllFresh limit most (known_entries v) (entries_of (take (i + 1) xs))
+  pub fresh_more : AllFresh s.limit s.max_batches (known_entries v) (entries_of (take i xs)) →
+      verdict_of s.limit s.max_batches (known_entries old) (entry_of b) ≡ Fresh →
+      AllFresh s.limit s.max_batches (known_entries v) (entries_of (take (i + 1) xs))
   fresh_more all fresh =
-      subst (AllFresh limit most (known_entries v)) (sym more_entries)
-      (all_fresh_more limit most (known_entries v) (entries_of (take i xs)) (entry_of b) all
-      (subst (λ (l : List Entry). verdict_of limit most l (entry_of b) ≡ Fresh) old_entries fresh))
+      subst (AllFresh s.limit s.max_batches (known_entries v)) (sym more_entries)
+      (all_fresh_more s.limit s.max_batches (known_entries v) (entries_of (take i xs)) (entry_of b) all
+      (subst (λ (l : List Entry). verdict_of s.limit s.max_batches l (entry_of b) ≡ Fresh) old_entries fresh))
 
-  pub stale_here : AllFresh limit most (known_entries v) (entries_of (take i xs)) →
-      verdict_of limit most (known_entries old) (entry_of b) ≢ Fresh →
-      StaleAt limit most (known_entries v) (entries_of xs) (length (known_entries old))
+  pub stale_here : AllFresh s.limit s.max_batches (known_entries v) (entries_of (take i xs)) →
+      verdict_of s.limit s.max_batches (known_entries old) (entry_of b) ≢ Fresh →
+      StaleAt s.limit s.max_batches (known_entries v) (entries_of xs) (length (known_entries old))
   stale_here all stale = record {
     front = entries_of (take i xs);
     entry = entry_of b;
     behind = entries_of (drop (suc i) xs);
     parts = ap entries_of (parted_at xs i b here) ∙ map-append entry_of (take i xs) (b ∷ drop (suc i) xs);
     fresh = all;
-    stale = subst (λ (l : List Entry). verdict_of limit most l (entry_of b) ≢ Fresh) old_entries stale;
+    stale = subst (λ (l : List Entry). verdict_of s.limit s.max_batches l (entry_of b) ≢ Fresh) old_entries stale;
     at_is = ap length old_entries ∙ length-append (known_entries v) (entries_of (take i xs));
   }
 
-  pub judged_here : (f : JoinFault) → AllFresh limit most (known_entries v) (entries_of (take i xs)) →
+  pub judged_here : (f : JoinFault) → AllFresh s.limit s.max_batches (known_entries v) (entries_of (take i xs)) →
       (f ≡ Memory) ⊎ ((f ≡ NotFresh (length (known_entries old)))
-      × (verdict_of limit most (known_entries old) (entry_of b) ≢ Fresh)) →
-      (f ≡ Memory) ⊎ ((at : ℕ) × (f ≡ NotFresh at) × StaleAt limit most (known_entries v) (entries_of xs) at)
+      × (verdict_of s.limit s.max_batches (known_entries old) (entry_of b) ≢ Fresh)) →
+      (f ≡ Memory) ⊎ ((at : ℕ) × (f ≡ NotFresh at) × StaleAt s.limit s.max_batches (known_entries v) (entries_of xs) at)
   judged_here f all (inl memory) = inl memory
   judged_here f all (inr told_so) = inr (length (known_entries old), told_so.0, stale_here all told_so.1)
 
@@ -176,10 +175,10 @@ module _ (limit most : ℕ) (v old : Listing) (xs : List Submission) (i : ℕ) (
 pub refused_by : (s : Setting) (v : Listing) (h : LogHead) (bs new : List Submission) (f : JoinFault) →
     IsBeside s (known_entries v) h (entries_of bs) → new ≡ behind_end (known_entries v) h bs →
     (f ≡ Memory) ⊎ ((at : ℕ) × (f ≡ NotFresh at)
-    × StaleAt s.limit s.max_batches (known_entries v) (entries_of new) at) → RefusesJoin s v h bs f
-refused_by s v h bs new f beside is (inl memory) = subst (RefusesJoin s v h bs) (sym memory) beside
+    × StaleAt s.limit s.max_batches (known_entries v) (entries_of new) at) → RefusesLists s v h bs f
+refused_by s v h bs new f beside is (inl memory) = subst (RefusesLists s v h bs) (sym memory) beside
 refused_by s v h bs new f beside is (inr told_so) =
-    subst (RefusesJoin s v h bs) (sym told_so.1) (
+    subst (RefusesLists s v h bs) (sym told_so.1) (
       beside,
       subst (λ (l : List Entry). StaleAt s.limit s.max_batches (known_entries v) l told_so.0)
           (ap entries_of is ∙ sym (drop-map entry_of (length (known_entries v) - h.first) bs)) told_so.2,
@@ -187,8 +186,8 @@ refused_by s v h bs new f beside is (inr told_so) =
 
 pub differs_by : (s : Setting) (v : Listing) (h : LogHead) (bs : List Submission) (f : JoinFault) →
     IsLinked s (known_entries v) h →
-    (at : ℕ) × (f ≡ EntryDiffers at) × DiffersAt h.first (known_entries v) (entries_of bs) at → RefusesJoin s v h bs f
-differs_by s v h bs f linked told_so = subst (RefusesJoin s v h bs) (sym told_so.1) (linked, told_so.2)
+    (at : ℕ) × (f ≡ EntryDiffers at) × DiffersAt h.first (known_entries v) (entries_of bs) at → RefusesLists s v h bs f
+differs_by s v h bs f linked told_so = subst (RefusesLists s v h bs) (sym told_so.1) (linked, told_so.2)
 
 -- both have the same where both have a place
 pub agrees_by : (es : List Entry) (bs : List Submission) (first shared : ℕ) →
@@ -199,11 +198,12 @@ agrees_by es bs first shared same logged all i within there = elim (cases_lt i s
   | inr ge ↦ absurd (let long = length-entries_of bs in let end = all (omega arith) in omega arith)
 ]
 
-pub new_dims : {Z : Type 0} (s t : Setting) (bs new : List (Arc Submission Z)) (n : ℕ) → t ≡ s → new ≡ drop n bs →
-    HaveDims t.rows t.cols (values bs) → HaveDims s.rows s.cols (values new)
-new_dims s t bs new n same is dims =
-    subst (λ (l : List Submission). HaveDims s.rows s.cols l) (drop-map arc_value n bs ∙ sym (ap values is))
-    (dims_drop s.rows s.cols n (values bs) (subst (λ (u : Setting). HaveDims u.rows u.cols (values bs)) same dims))
+pub new_fit : {Z : Type 0} (s t : Setting) (bs new : List (Arc Submission Z)) (n : ℕ) → FitsIn t s → new ≡ drop n bs →
+    HaveDims t.rows t.cols (values bs) → AllLieIn s (values new)
+new_fit s t bs new n fits is dims =
+    all_lie_in t s (values new) fits
+    (subst (λ (l : List Submission). HaveDims t.rows t.cols l) (drop-map arc_value n bs ∙ sym (ap values is))
+    (dims_drop t.rows t.cols n (values bs) dims))
 
 -- what stands behind the end of the list
 pub new_is : {Z : Type 0} (es : List Entry) (h : LogHead) (bs new : List (Arc Submission Z)) (n : ℕ) → new ≡ drop n bs →

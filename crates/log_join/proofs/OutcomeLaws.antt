@@ -1,5 +1,5 @@
 -- One refusal at most, and none where a list is made.
-use Rattle.std.proofs.Common.{◌≡◌, ◌≢◌, ℕ, ◌+◌, ◌<◌, ◌≤◌, List, [], ◌∷◌, ◌++◌, length, slice_get, Some, refl, sym, ap}
+use Rattle.std.proofs.Common.{◌≡◌, ◌≢◌, ℕ, ◌+◌, ◌≤◌, List, length, slice_get, refl, sym, ap}
 use Rattle.std.proofs.Common.{subst, ◌∙◌, inl, inr, arith}
 use Rattle.std.proofs.lemmas.Bool.{cases_lt}
 use mathlib.Core.List.{IsPrefix}
@@ -9,12 +9,15 @@ use Rattle.batch_store.specs.Batches.{Submission, entries_of}
 use Rattle.batch_store.specs.Books.{Listing}
 use Rattle.log_head.specs.declared.head.LogHead.{LogHead}
 use Rattle.log_lives.proofs.Prefixes.{prefix_push}
-use Rattle.log_lives.specs.Lives.{restored}
-use Rattle.log_join.specs.Joins.{Agrees, AllFresh, DiffersAt, HasGap, IsLinked, IsUnlinked, Joins, RefusesJoin, StaleAt}
-use Rattle.log_join.specs.Joins.{behind_end, known_entries, log_behind}
+use Rattle.batch_store.specs.Verdicts.{AllFresh}
+use Rattle.log_join.specs.Joins.{Agrees, DiffersAt, HasGap, IsLinked, IsUnlinked, Joins, StaleAt}
+use Rattle.log_join.specs.Joins.{RefusesJoin, RefusesLists}
+use Rattle.snap_file.specs.Origins.{IsOtherBook}
+use Rattle.snap_file.specs.declared.origin.Identity.{Identity}
+use Rattle.log_join.specs.Joins.{behind_end, known_entries}
 use Rattle.log_join.specs.declared.fault.JoinFault.{JoinFault}
 use Rattle.log_join.specs.declared.fault.JoinFault.TheVariants.{SetupDiffers, Gap, LinkDiffers, EntryDiffers, NotFresh}
-use Rattle.log_join.specs.declared.fault.JoinFault.TheVariants.{Memory}
+use Rattle.log_join.specs.declared.fault.JoinFault.TheVariants.{Memory, OtherBook}
 use Rattle.log_join.proofs.FreshLemmas.{never_stale, one_stale}
 
 never_gap : (s : Setting) (es : List Entry) (h : LogHead) (first : ℕ) → HasGap s es h first → h.first ≤ length es → ⊥
@@ -52,10 +55,12 @@ never_fresh : (limit most : ℕ) (es more : List Entry) (at : ℕ) → StaleAt l
 never_fresh limit most es more at a all =
     never_stale limit most es a.front a.behind a.entry (subst (AllFresh limit most es) a.parts all) a.stale
 
-pub one_refusal : (s : Setting) (v : Listing) (h : LogHead) (bs : List Submission) (f g : JoinFault) → f ≢ Memory →
-    g ≢ Memory → RefusesJoin s v h bs f → RefusesJoin s v h bs g → f ≡ g
+one_refusal : (s : Setting) (v : Listing) (h : LogHead) (bs : List Submission) (f g : JoinFault) → f ≢ Memory →
+    g ≢ Memory → RefusesLists s v h bs f → RefusesLists s v h bs g → f ≡ g
 one_refusal s v h bs Memory g n m a b = absurd (n refl)
 one_refusal s v h bs f Memory n m a b = absurd (m refl)
+one_refusal s v h bs OtherBook g n m a b = absurd a
+one_refusal s v h bs f OtherBook n m a b = absurd b
 one_refusal s v h bs SetupDiffers SetupDiffers n m a b = refl
 one_refusal s v h bs SetupDiffers (Gap first) n m a b = absurd (a b.setup)
 one_refusal s v h bs SetupDiffers LinkDiffers n m a b = absurd (a b.setup)
@@ -95,8 +100,8 @@ pub one_list : (s : Setting) (v : Listing) (h : LogHead) (bs : List Submission) 
     Joins s v h bs b → a ≡ b
 one_list s v h bs a b x y = x.list_is ∙ sym y.list_is
 
-pub never_refused : (s : Setting) (v : Listing) (h : LogHead) (bs : List Submission) (list : Listing) (f : JoinFault) →
-    f ≢ Memory → Joins s v h bs list → RefusesJoin s v h bs f → ⊥
+never_refused : (s : Setting) (v : Listing) (h : LogHead) (bs : List Submission) (list : Listing) (f : JoinFault) →
+    f ≢ Memory → Joins s v h bs list → RefusesLists s v h bs f → ⊥
 never_refused s v h bs list SetupDiffers n j a = a j.beside.linked.setup
 never_refused s v h bs list (Gap first) n j a = never_gap s (known_entries v) h first a j.beside.linked.no_gap
 never_refused s v h bs list LinkDiffers n j a = never_unlinked s (known_entries v) h a j.beside.linked
@@ -105,8 +110,21 @@ never_refused s v h bs list (EntryDiffers at) n j a =
 never_refused s v h bs list (NotFresh at) n j a =
     never_fresh s.limit s.max_batches (known_entries v) (behind_end (known_entries v) h (entries_of bs)) at a.1 j.fresh
 never_refused s v h bs list Memory n j a = n refl
+never_refused s v h bs list OtherBook n j a = a
 
 pub goes_on : (s : Setting) (v : Listing) (h : LogHead) (bs : List Submission) (list : Listing) → Joins s v h bs list →
     IsPrefix (known_entries v) (known_entries list)
 goes_on s v h bs list j =
     subst (λ (l : List Entry). IsPrefix (known_entries v) l) (sym j.restored_is) (prefix_push (known_entries v) _)
+
+pub one_fault : (s : Setting) (i : Identity) (v : Listing) (h : LogHead) (bs : List Submission) (f g : JoinFault) →
+    f ≢ Memory → g ≢ Memory → RefusesJoin s i v h bs f → RefusesJoin s i v h bs g → f ≡ g
+one_fault s i v h bs f g n m (inl a) (inl b) = a.0 ∙ sym b.0
+one_fault s i v h bs f g n m (inl a) (inr b) = absurd (b.0 a.1)
+one_fault s i v h bs f g n m (inr a) (inl b) = absurd (a.0 b.1)
+one_fault s i v h bs f g n m (inr a) (inr b) = one_refusal s v h bs f g n m a.1 b.1
+
+pub never_faulty : (s : Setting) (i : Identity) (v : Listing) (h : LogHead) (bs : List Submission) (list : Listing)
+    (f : JoinFault) → f ≢ Memory → (IsOtherBook i h.identity → ⊥) → Joins s v h bs list → RefusesJoin s i v h bs f → ⊥
+never_faulty s i v h bs list f n own j (inl a) = own a.1
+never_faulty s i v h bs list f n own j (inr a) = never_refused s v h bs list f n j a.1

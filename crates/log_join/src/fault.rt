@@ -6,7 +6,10 @@ use thiserror::Error;
 /// batches. `Memory` may hide `NotFresh`, and no other.
 #[derive(Clone, Copy, Debug, PartialEq, Eq, Error)]
 pub enum JoinFault {
-    /// The log is of another setup.
+    /// The log is of another book, or of another window of it.
+    #[error("OtherBook")]
+    OtherBook,
+    /// The log's setup has more rows or more columns.
     #[error("SetupDiffers")]
     SetupDiffers,
     /// The log begins at this place, behind the snapshot's end.

@@ -1,12 +1,14 @@
 //! Puts the batches of a log behind a snapshot's list.
-ghost use Rattle.std.specs.Prelude.{◌≡◌, ◌≢◌, ◌⊎◌, ◌+◌, ◌-◌, ◌≤◌, ℕ, [], ◌∷◌, ◌++◌, IfOk, IfErr, OnOk, drop, length};
+ghost use Rattle.std.specs.Prelude.{◌≡◌, ◌≢◌, ◌⊎◌, ◌+◌, ◌-◌, ◌≤◌, true, ℕ, [], ◌∷◌, ◌++◌, IfOk, IfErr, OnOk, drop, length};
 ghost use Rattle.std.specs.Arc.{arc_value};
 ghost use Rattle.batch_store.specs.declared.verdict.Verdict.TheVariants.{Fresh};
 ghost use Rattle.batch_store.specs.Batches.{entry_of, entries_of, values};
 ghost use Rattle.batch_store.specs.Books.{AreAccepted, HaveDims, accepted_in, listing};
-ghost use Rattle.batch_store.specs.Verdicts.{verdict_of};
+ghost use Rattle.batch_store.specs.Growth.{AllLieIn, LiesIn, all_widened, widened};
+ghost use Rattle.batch_store.specs.Verdicts.{AllFresh, verdict_of};
+ghost use Rattle.snap_file.specs.Origins.{IsOtherBook};
 ghost use Rattle.log_join.specs.Entries.{HasSeen};
-ghost use Rattle.log_join.specs.Joins.{AllFresh, Joins, RefusesJoin, StaleAt, known_entries};
+ghost use Rattle.log_join.specs.Joins.{Joins, RefusesJoin, RefusesLists, StaleAt, known_entries};
 ghost use Rattle.log_join.specs.declared.fault.JoinFault.{JoinFault};
 
 use crate::fault::JoinFault;
@@ -14,7 +16,8 @@ use crate::known::{count_of, judge_head, judge_shared, shared_of};
 use crate::seen::{Seen, seen_in, take_fresh};
 use batch_store::{Batch, BookList, Setup};
 use log_head::LogHead;
-use std::alloc::Global;
+use snap_file::Identity;
+use std::alloc::{AllocError, Global};
 use std::sync::Arc;
 
 // The batches from a place on.
@@ -25,13 +28,40 @@ fn behind(batches: &[Arc<Batch>], at: usize) -> &[Arc<Batch>]
     batches.split_at(at).1
 }
 
-// Appends a batch to a list, which shares it.
-fn push_shared(list: &mut BookList, batch: &Arc<Batch>) -> Result<(), JoinFault>
+// Whether a batch's matrix has the setup's dimensions.
+fn has_dims(setup: &Setup, batch: &Batch) -> bool
+    ensures { result ≡ true → (batch.now.matrix.rows ≡ setup.now.rows) × (batch.now.matrix.cols ≡ setup.now.cols) }
+{
+    let (rows, cols) = batch.matrix.dims();
+    rows == setup.rows() && cols == setup.cols()
+}
+
+// A batch in a matrix of the setup's dimensions: the batch itself, shared, where it has these.
+fn in_setup(alloc: Global, setup: &Setup, batch: &Arc<Batch>) -> Result<Arc<Batch>, AllocError>
+    requires { LiesIn setup.now (arc_value batch.now) }
+    ensures { IfOk result (λ b. arc_value b ≡ widened setup.now (arc_value batch.now)) }
+{
+    if has_dims(setup, batch) {
+        let shared = Arc::try_clone(batch)?;
+        return Ok(shared);
+    }
+    let wide = batch.widened(alloc, setup)?;
+    Ok(wide)
+}
+
+// Appends a batch to a list, in a matrix of the setup's dimensions.
+fn push_widened(
+    alloc: Global,
+    setup: &Setup,
+    list: &mut BookList,
+    batch: &Arc<Batch>,
+) -> Result<(), JoinFault>
+    requires { LiesIn setup.now (arc_value batch.now) }
     ensures ok { OnOk result (list.new ≡
-        listing list.old.base list.old.folded (list.old.list ++ arc_value batch.now ∷ [])) }
+        listing list.old.base list.old.folded (list.old.list ++ widened setup.now (arc_value batch.now) ∷ [])) }
     ensures err { IfErr result (λ f. f ≡ JoinFault.Memory) }
 {
-    let Ok(shared) = Arc::try_clone(batch) else {
+    let Ok(shared) = in_setup(alloc, setup, batch) else {
         return Err(JoinFault::Memory);
     };
     match list.batches.push(shared) {
@@ -42,6 +72,7 @@ fn push_shared(list: &mut BookList, batch: &Arc<Batch>) -> Result<(), JoinFault>
 
 // Appends a batch that is fresh behind those of the list.
 fn take_batch(
+    alloc: Global,
     setup: &Setup,
     seen: &mut Seen,
     list: &mut BookList,
@@ -49,10 +80,9 @@ fn take_batch(
 ) -> Result<(), JoinFault>
     requires seen { HasSeen seen.old (known_entries list.old) }
     requires accepted { AreAccepted setup.now (accepted_in list.old) }
-    requires rows { (arc_value batch.now).matrix.rows ≡ setup.now.rows }
-    requires cols { (arc_value batch.now).matrix.cols ≡ setup.now.cols }
+    requires fits { LiesIn setup.now (arc_value batch.now) }
     ensures list { OnOk result (list.new ≡
-        listing list.old.base list.old.folded (list.old.list ++ arc_value batch.now ∷ [])) }
+        listing list.old.base list.old.folded (list.old.list ++ widened setup.now (arc_value batch.now) ∷ [])) }
     ensures seen { OnOk result (HasSeen seen.new (known_entries list.new)) }
     ensures accepted { OnOk result (AreAccepted setup.now (accepted_in list.new)) }
     ensures fresh { OnOk result (verdict_of setup.now.limit setup.now.max_batches (known_entries list.old)
@@ -67,7 +97,7 @@ fn take_batch(
     match take_fresh(seen, setup, &batch.entry()) {
         Err(_) => Err(JoinFault::Memory),
         Ok(false) => Err(JoinFault::NotFresh { at }),
-        Ok(true) => push_shared(list, batch),
+        Ok(true) => push_widened(alloc, setup, list, batch),
     }
 }
 
@@ -79,8 +109,9 @@ fn append_new(
     batches: &[Arc<Batch>],
 ) -> Result<BookList, JoinFault>
     requires accepted { AreAccepted setup.now (accepted_in known) }
-    requires dims { HaveDims setup.now.rows setup.now.cols (values batches.now) }
-    ensures list { IfOk result (λ list. list ≡ listing known.base known.folded (known.list ++ values batches.now)) }
+    requires fit { AllLieIn setup.now (values batches.now) }
+    ensures list { IfOk result (λ list. list ≡
+        listing known.base known.folded (known.list ++ all_widened setup.now (values batches.now))) }
     ensures accepted { IfOk result (λ list. AreAccepted setup.now (accepted_in list)) }
     ensures fresh { OnOk result (AllFresh setup.now.limit setup.now.max_batches (known_entries known)
         (entries_of (values batches.now))) }
@@ -92,21 +123,13 @@ fn append_new(
         return Err(JoinFault::Memory);
     };
     'batches: for i in 0..batches.len() {
-        take_batch(setup, &mut seen, &mut list, &batches[i])?;
+        take_batch(alloc, setup, &mut seen, &mut list, &batches[i])?;
     }
     Ok(list)
 }
 
-/// The list of a snapshot and a log: that of the snapshot, and behind it the log's batches at places from its end on.
-/// A log that ends before the snapshot does adds nothing. Where there is no snapshot the list is an empty one.
-///
-/// It costs one pass over the entries before the log, and where the log goes on behind the snapshot the time of a
-/// look-up for each batch of both, and a place in a set for each until it returns. The log's batches are shared.
-///
-/// # Errors
-///
-/// The first refusal that stands, in the order of `JoinFault`.
-pub fn join_log(
+// So for a snapshot and a log of one book.
+fn join_lists(
     alloc: Global,
     setup: &Setup,
     known: BookList,
@@ -116,7 +139,7 @@ pub fn join_log(
     requires accepted { AreAccepted setup.now (accepted_in known) }
     requires dims { HaveDims head.now.setup.rows head.now.setup.cols (values batches.now) }
     ensures ok { IfOk result (Joins setup.now known head.now (values batches.now)) }
-    ensures err { IfErr result (RefusesJoin setup.now known head.now (values batches.now)) }
+    ensures err { IfErr result (RefusesLists setup.now known head.now (values batches.now)) }
 {
     judge_head(setup, &known, head)?;
     let first = head.first as usize;
@@ -128,4 +151,38 @@ pub fn join_log(
     }
     let new = behind(batches, shared);
     append_new(alloc, setup, known, new)
+}
+
+/// The list of a snapshot and a log: that of the snapshot, then the log's batches at indices from its end on.
+/// A log that ends before the snapshot does adds nothing. Where there is no snapshot the list is an empty one. `whose`
+/// is the snapshot's identity, unknown where there is none or it doesn't say one.
+///
+/// `setup` judges the list. The log's setup may have fewer rows and columns, and any cuts, shards and limits: its
+/// batches get matrices of `setup`'s dimensions.
+///
+/// It costs one pass over the entries before the log, and where the log goes on after the snapshot the time of a
+/// look-up for each batch of both, and a place in a set for each until it returns. The log's batches are shared where
+/// they have the dimensions; else their blocks of cells are.
+///
+/// # Errors
+///
+/// The first refusal that holds, in the order of `JoinFault`.
+pub fn join_log(
+    alloc: Global,
+    setup: &Setup,
+    whose: &Identity,
+    known: BookList,
+    head: &LogHead,
+    batches: &[Arc<Batch>],
+) -> Result<BookList, JoinFault>
+    requires accepted { AreAccepted setup.now (accepted_in known) }
+    requires dims { HaveDims head.now.setup.rows head.now.setup.cols (values batches.now) }
+    ensures book { OnOk result (IsOtherBook whose.now head.now.identity → ⊥) }
+    ensures ok { IfOk result (Joins setup.now known head.now (values batches.now)) }
+    ensures err { IfErr result (RefusesJoin setup.now whose.now known head.now (values batches.now)) }
+{
+    if whose.is_other(&head.identity) {
+        return Err(JoinFault::OtherBook);
+    }
+    join_lists(alloc, setup, known, head, batches)
 }

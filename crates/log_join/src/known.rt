@@ -1,18 +1,17 @@
 //! The entries of a snapshot's list.
-ghost use Rattle.std.specs.Prelude.{◌≡◌, ◌≢◌, ◌↔◌, ◌+◌, ◌<◌, ◌≤◌, ◌^◌, true, false, ℕ, Some, List, OnOk, IfErr};
+ghost use Rattle.std.specs.Prelude.{◌≡◌, ◌≢◌, ◌+◌, ◌<◌, ◌≤◌, ◌^◌, true, false, ℕ, Some, List, OnOk, IfErr};
 ghost use Rattle.std.specs.Prelude.{length, slice_get, take};
 ghost use Rattle.batch_store.specs.Batches.{Submission, entry_of, entries_of, values};
 ghost use Rattle.batch_store.specs.Books.{AreAccepted, accepted_in};
+ghost use Rattle.batch_store.specs.Growth.{FitsIn};
 ghost use Rattle.batch_store.specs.Verdicts.{total_of_entries};
-ghost use Rattle.log_head.specs.Heads.{IsHead};
 ghost use Rattle.log_head.specs.Links.{link_in};
-ghost use Rattle.log_join.specs.Joins.{DiffersAt, IsLinked, RefusesJoin, known_entries};
+ghost use Rattle.log_join.specs.Joins.{DiffersAt, IsLinked, RefusesLists, known_entries};
 ghost use Rattle.log_join.specs.declared.fault.JoinFault.{JoinFault};
 
 use crate::fault::JoinFault;
 use batch_store::{Batch, BookList, Entry, Setup};
 use log_head::{Link, LogHead};
-use snap_file::Identity;
 use std::sync::Arc;
 
 /// How many batches a list has.
@@ -72,36 +71,12 @@ fn front_of(list: &BookList, first: usize) -> Front
     }
 }
 
-/// The head of a log that begins behind all batches of a list. It costs one pass over their entries.
-pub fn head_of(setup: &Setup, list: &BookList) -> LogHead
-    requires { AreAccepted setup.now (accepted_in list.now) }
-    ensures setup { result.setup ≡ setup.now }
-    ensures first { result.first ≡ length (known_entries list.now) }
-    ensures total { result.total ≡ total_of_entries (known_entries list.now) }
-    ensures link { result.link ≡ link_in (known_entries list.now) }
-    ensures within { IsHead result }
+// Whether matrices of the first setup's dimensions fit into those of the second.
+fn fits_in(from: &Setup, to: &Setup) -> bool
+    ensures yes { result ≡ true → FitsIn from.now to.now }
+    ensures no { result ≡ false → FitsIn from.now to.now → ⊥ }
 {
-    let count = count_of(list);
-    let front = front_of(list, count);
-    LogHead {
-        setup: *setup,
-        first: count as u64,
-        total: front.total,
-        link: front.link,
-        identity: Identity::unknown(),
-    }
-}
-
-// Whether two setups have the same values.
-fn same_setup(a: &Setup, b: &Setup) -> bool
-    ensures { (result ≡ true) ↔ (a.now ≡ b.now) }
-{
-    a.rows() == b.rows()
-        && a.cols() == b.cols()
-        && a.cuts() == b.cuts()
-        && a.shards() == b.shards()
-        && a.limit() == b.limit()
-        && a.max_batches() == b.max_batches()
+    from.rows() <= to.rows() && from.cols() <= to.cols()
 }
 
 // Judges the total and the link of a head that begins within the list.
@@ -121,9 +96,9 @@ fn judge_link(list: &BookList, head: &LogHead) -> bool
 pub fn judge_head(setup: &Setup, list: &BookList, head: &LogHead) -> Result<(), JoinFault>
     requires { AreAccepted setup.now (accepted_in list.now) }
     ensures ok { OnOk result (IsLinked setup.now (known_entries list.now) head.now) }
-    ensures err { IfErr result (λ f. (bs : List Submission) → RefusesJoin setup.now list.now head.now bs f) }
+    ensures err { IfErr result (λ f. (bs : List Submission) → RefusesLists setup.now list.now head.now bs f) }
 {
-    if !same_setup(&head.setup, setup) {
+    if !fits_in(&head.setup, setup) {
         return Err(JoinFault::SetupDiffers);
     }
     if head.first > count_of(list) as u64 {
@@ -167,7 +142,7 @@ pub fn judge_shared(
     shared: usize,
 ) -> Result<(), JoinFault>
     requires listed { first + shared ≤ length (known_entries list.now) }
-    requires few { length (known_entries list.now) ≤ 1000000 }
+    requires few { length (known_entries list.now) ≤ 2 ^ 30 }
     requires logged { shared ≤ length batches.now }
     ensures ok { OnOk result ((i : ℕ) → i < shared →
         slice_get (known_entries list.now) (first + i) ≡ slice_get (entries_of (values batches.now)) i) }

@@ -13,5 +13,4 @@ mod seen;
 
 pub use fault::JoinFault;
 pub use join::join_log;
-pub use known::head_of;
 pub use laws::{a_join_has_one_outcome, joined_lists_go_on};

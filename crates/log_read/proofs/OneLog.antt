@@ -124,7 +124,7 @@ with_ok : (gs found : List Chunks) (read : Result (List Chunks) LogFault) → wi
 with_ok gs found (Ok more) e = (more, same_ok found (gs ++ more) (sym e ∙ with_blocks_ok gs more))
 with_ok gs found (Err fault) e = absurd (ok_is_no_err found fault (sym e ∙ with_blocks_err gs fault))
 
-module _ (first : ℕ) (low : first ≤ 1000000) where
+module _ (first : ℕ) (low : first ≤ 2 ^ 30) where
   -- the blocks of a front are the first ones of all
   begun : (front behind : List Page) (gs found : List Chunks) → length front < 2 ^ 50 → ArePages front →
       read_pages first front ≡ Ok gs → read_pages first (front ++ behind) ≡ Ok found →
@@ -236,7 +236,7 @@ few_pages bytes few =
     length-pages 0 (page_count (drop 4096 bytes)) (drop 4096 bytes) in
     omega (arith, count, length-drop 4096 bytes)
 
-low_first : (page : List ℕ) (h : LogHead) → HasHead page h → h.first ≤ 1000000
+low_first : (page : List ℕ) (h : LogHead) → HasHead page h → h.first ≤ 2 ^ 30
 low_first page h has = omega (arith, has.is.first, has.is.setup.batches.1)
 
 pub one_log : (bytes : List ℕ) (file other : LogFile) → IsBytes bytes → HoldsLog bytes file → HoldsLog bytes other →

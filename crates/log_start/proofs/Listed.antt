@@ -1,18 +1,23 @@
 -- What a log tells beside a known list.
-use Rattle.std.proofs.Common.{◌≡◌, ℕ, zero, suc, ◌+◌, ◌-◌, ◌<◌, ◌≤◌, List, [], ◌∷◌, ◌++◌, length, take, drop}
+use Rattle.std.proofs.Common.{◌≡◌, ◌⊎◌, ℕ, zero, suc, ◌+◌, ◌-◌, ◌<◌, ◌≤◌, List, [], ◌∷◌, ◌++◌, length, take, drop}
 use Rattle.std.proofs.Common.{slice_get, Some, refl, sym, ap, subst, ◌∙◌, length-append, length-take, arith}
 use Rattle.std.proofs.lemmas.List.{length-drop, drop-map}
 use Rattle.batch_store.specs.declared.verdict.Entry.{Entry}
 use Rattle.batch_store.specs.Setups.{Setting}
 use Rattle.batch_store.specs.Batches.{Submission, entry_of, entries_of, values}
 use Rattle.batch_store.specs.Books.{Listing}
+use Rattle.batch_store.specs.Growth.{all_widened}
 use Rattle.batch_store.proofs.BookLaws.{length-entries_of}
+use Rattle.batch_store.proofs.GrowthLaws.{entries-widened}
+use Rattle.snap_file.specs.Origins.{IsOtherBook, own}
+use Rattle.snap_file.specs.declared.origin.Identity.{Identity}
 use Rattle.log_head.specs.declared.head.LogHead.{LogHead}
 use Rattle.log_join.specs.Joins.{Agrees, Joins, behind_end, known_entries}
 use Rattle.log_join.proofs.JoinLemmas.{entries-joined}
 use Rattle.log_start.specs.Found.{IsFound, ReadsAs}
-use Rattle.log_start.specs.Records.{IsLogOf, joined, log_in}
+use Rattle.log_start.specs.Records.{IsLogAs, joined, log_in}
 use Rattle.log_start.specs.Starts.{IsJoined}
+use Rattle.log_start.specs.declared.owner.LogOwner.{LogOwner}
 use Rattle.log_start.specs.declared.read.FoundLog.{FoundLog}
 
 -- where both have a place, both have the same: so the one list goes on as the other does
@@ -49,7 +54,8 @@ module _ (s : Setting) (v list : Listing) (head : LogHead) (bs : List Submission
   entries_are : known_entries list ≡ known_entries v ++ drop (length (known_entries v) - head.first) (entries_of bs)
   entries_are =
       ap known_entries joins.list_is
-      ∙ entries-joined v (behind_end (known_entries v) head bs)
+      ∙ entries-joined v (all_widened s (behind_end (known_entries v) head bs))
+      ∙ ap (λ (l : List Entry). known_entries v ++ l) (entries-widened s (behind_end (known_entries v) head bs))
       ∙ ap (λ (l : List Entry). known_entries v ++ l)
       (sym (drop-map entry_of (length (known_entries v) - head.first) bs))
 
@@ -71,35 +77,45 @@ module _ (s : Setting) (v list : Listing) (head : LogHead) (bs : List Submission
 
   pub told_log : (bytes : List ℕ) (lists : List (List Submission)) → ReadsAs bytes head lists → bs ≡ joined lists →
       length (known_entries list) ≤ head.first + length bs →
-      IsLogOf (log_in (take 4096 bytes) head.first lists) (known_entries list)
+      IsLogAs (log_in (take 4096 bytes) head.first lists) head.setup head.identity (known_entries list)
   told_log bytes lists read is short =
       let l = (let b = joins.beside in b.linked) in
       record {
-        head = head;
-        before = take head.first (known_entries v);
-        lists = lists;
-        has_head = read.has_head;
-        first_is = refl;
-        before_is = omega (arith, length-take head.first (known_entries v), linked);
-        total_is = l.total;
-        link_is = l.link;
-        blocks_are = refl;
-        entries_are = all_told short
-            ∙ ap (λ (b : List Submission). take head.first (known_entries v) ++ entries_of b) is;
+        log = record {
+          head = head;
+          before = take head.first (known_entries v);
+          lists = lists;
+          has_head = read.has_head;
+          first_is = refl;
+          before_is = omega (arith, length-take head.first (known_entries v), linked);
+          total_is = l.total;
+          link_is = l.link;
+          blocks_are = refl;
+          entries_are = all_told short
+              ∙ ap (λ (b : List Submission). take head.first (known_entries v) ++ entries_of b) is;
+        };
+        setup = refl;
+        identity = refl;
       }
 
-pub is_joined : (s : Setting) (v list : Listing) (bytes : List ℕ) (log : FoundLog) → IsFound bytes log →
-    Joins s v log.head (values log.batches.items) list → IsJoined s v bytes list
-is_joined s v list bytes log found joins = record {
+pub is_joined : (s : Setting) (o : LogOwner) (v list : Listing) (i : Identity) (t : Setting) (bytes : List ℕ)
+    (log : FoundLog) →
+    IsFound bytes log → (IsOtherBook o.known log.head.identity → ⊥) →
+    Joins s v log.head (values log.batches.items) list →
+    ((i ≡ log.head.identity) × (t ≡ log.head.setup)) ⊎ ((i ≡ own o.known log.head.identity o.drawn) × (t ≡ s)) →
+    IsJoined s o v bytes list i t
+is_joined s o v list i t bytes log found book joins whose = record {
   head = log.head;
   lists = found.lists;
   read = found.read;
+  book = book;
   joins = subst (λ (b : List Submission). Joins s v log.head b list) found.batches_are joins;
+  whose = whose;
 }
 
 pub found_log : (s : Setting) (v list : Listing) (bytes : List ℕ) (log : FoundLog) (found : IsFound bytes log) →
     Joins s v log.head (values log.batches.items) list → length (known_entries list) ≤ log.end.next →
-    IsLogOf (log_in (take 4096 bytes) log.head.first found.lists) (known_entries list)
+    IsLogAs (log_in (take 4096 bytes) log.head.first found.lists) log.head.setup log.head.identity (known_entries list)
 found_log s v list bytes log found joins short =
     told_log s v list log.head (values log.batches.items) joins bytes found.lists found.read found.batches_are
     (omega (arith, short, found.next_is, ap (λ (b : List Submission). length b) found.batches_are))

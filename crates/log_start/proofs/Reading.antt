@@ -1,7 +1,7 @@
 -- A run of reads of a log's file.
 use Rattle.std.proofs.Common.{◌≡◌, inl, inr, ⊎_elim, ℕ, ◌≤◌, List, [], ◌∷◌, length, get_or, refl, sym}
 use Rattle.std.proofs.Common.{◌∙◌, ap, subst, arith}
-use Rattle.std.specs.Prelude.{Result, Ok, Err, OnOk, IfOk, IfErr}
+use Rattle.std.specs.Prelude.{Result, Ok, Err, OnOk, IfOk, IfErr, Option, Some, None, IfSome, IfNone}
 use Rattle.std.proofs.lemmas.List.{ext_get_or}
 use Rattle.byte_io.specs.Streams.{Answer, Calls, bytes_of_calls}
 use Rattle.log_source.specs.Sources.{GivesFrom, IsUntouched}
@@ -24,6 +24,17 @@ pub if_ok_both : {T E : Type 0} {P Q R : T → Type 0} (r : Result T E) → IfOk
     ((x : T) → P x → Q x → R x) → IfOk r R
 if_ok_both (Ok x) g h f = f x g h
 if_ok_both (Err e) g h f = tt
+
+pub if_ok_all : {T E : Type 0} {P Q R S : T → Type 0} (r : Result T E) → IfOk r P → IfOk r Q → IfOk r R →
+    ((x : T) → P x → Q x → R x → S x) → IfOk r S
+if_ok_all (Ok x) g h k f = f x g h k
+if_ok_all (Err e) g h k f = tt
+
+pub if_some_at : {T : Type 0} (P : T → Type 0) (o : Option T) (x : T) → o ≡ Some x → IfSome o P → P x
+if_some_at {T} P o x is h = subst (λ (p : Option T). IfSome p P) is h
+
+pub if_none_at : {T : Type 0} (P : Type 0) (o : Option T) → o ≡ None → IfNone o P → P
+if_none_at {T} P o is h = subst (λ (p : Option T). IfNone p P) is h
 
 -- what one read does, of a source whose state has these parts
 abbrev pub IsStep : {S D N : Type 0} → (S → Answer → S → Type 0) → (S → N) → (S → D) → (S → ℕ) → (S → ℕ)

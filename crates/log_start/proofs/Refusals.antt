@@ -9,6 +9,7 @@ use Rattle.log_file.specs.Logs.{Log}
 use Rattle.log_start.specs.Found.{IsRefused}
 use Rattle.log_start.specs.Starts.{RefusesFound}
 use Rattle.log_start.specs.declared.fault.StartFault.{StartFault}
+use Rattle.log_start.specs.declared.owner.LogOwner.{LogOwner}
 
 is_memory : (kind : LogKind) → (kind ≡ LogKind.Memory) ⊎ (kind ≢ LogKind.Memory)
 is_memory LogKind.Memory = inl refl
@@ -24,12 +25,12 @@ is_memory LogKind.TooLong = inr (λ e. absurd cc)
 
 pub file_refused : {D : Type 0} (tells : D → Type 0) (written : D → List ℕ) (may_leave : D → List ℕ → Type 0)
     (moment : D → ℕ) (left_since : D → ℕ → List ℕ → Type 0) (failures : D → ℕ) (in_doubt : D → Bool) (file : D) (len : ℕ)
-    (l : Log) (block : Block) (s : Setting) (v : Listing) (old new : ℕ) (why : LogFault) (fault : StartFault) →
+    (l : Log) (block : Block) (s : Setting) (o : LogOwner) (v : Listing) (old new : ℕ) (why : LogFault) (fault : StartFault) →
     (why.kind ≡ LogKind.Memory → fault ≡ StartFault.Memory) →
     (why.kind ≢ LogKind.Memory → fault ≡ StartFault.Log why) →
     (after : D) × IsRefused tells written failures file after len why →
-    RefusesFound tells written may_leave moment left_since failures in_doubt file len l block s v old new fault
-file_refused tells written may_leave moment left_since failures in_doubt file len l block s v old new why fault memory
+    RefusesFound tells written may_leave moment left_since failures in_doubt file len l block s o v old new fault
+file_refused tells written may_leave moment left_since failures in_doubt file len l block s o v old new why fault memory
     other refused =
     elim (is_memory why.kind) [
       | inl m ↦ inl (memory m)

@@ -17,7 +17,7 @@ use Rattle.log_join.specs.Joins.{known_entries}
 use Rattle.log_join.proofs.PlaceLemmas.{total_next, total_within}
 use Rattle.open_log.specs.Rotations.{begun}
 use Rattle.log_start.specs.Fronts.{HasSummed}
-use Rattle.log_start.specs.Records.{IsLogOf}
+use Rattle.log_start.specs.Records.{IsLogAs}
 use Rattle.log_start.specs.declared.head.Front.{Front}
 
 -- the next of a list of entries
@@ -71,16 +71,20 @@ module _ (s : Setting) (v : Listing) (front : Front) (h : LogHead) (accepted : A
     named = named;
   }
 
-  pub is_log : IsLogOf (begun (head_page h) h.first) (known_entries v)
+  pub is_log : IsLogAs (begun (head_page h) h.first) s h.identity (known_entries v)
   is_log = record {
-    head = h;
-    before = known_entries v;
-    lists = [];
-    has_head = written_head h is_head;
-    first_is = refl;
-    before_is = sym first;
-    total_is = sym has.total ∙ sym total;
-    link_is = sym link;
-    blocks_are = refl;
-    entries_are = sym (append-nil (known_entries v));
+    log = record {
+      head = h;
+      before = known_entries v;
+      lists = [];
+      has_head = written_head h is_head;
+      first_is = refl;
+      before_is = sym first;
+      total_is = sym has.total ∙ sym total;
+      link_is = sym link;
+      blocks_are = refl;
+      entries_are = sym (append-nil (known_entries v));
+    };
+    setup = setup;
+    identity = refl;
   }

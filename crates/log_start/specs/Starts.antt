@@ -2,11 +2,15 @@
 --     WasLeft .. disk l block     an earlier life left the file so: it has the log, and of the next block any part
 --     MayGoOn .. disk l block     where the file can be read as a log, it was left so
 --     GoesOn .. old new l block   what a loss of power leaves of the file at any moment of a start
---     IsJoined s v bytes list     the bytes are a log, and a start makes this list of it and the known one
---     IsList .. list              the list that a start gives: the known one where no log was found, or one so joined
+--     IsJoined s o v bytes list i t
+--                                 the bytes are a log of no other book, and a start makes this list of it and the known
+--                                 one; the log in use is of that log's identity and setup, or one of the owner's and of
+--                                 the start's setup was begun
+--     IsList .. list i t          the list that a start gives, whose the log in use is, and of which setup: the known one
+--                                 where no log was found and none had to be there, or one so joined
 --     FailsToFind .. fault        why nobody knows what stands under the log's name
 --     RefusesStart .. fault       why else there is no start
-use Rattle.std.specs.Prelude.{◌≡◌, ◌≢◌, ◌⊎◌, ℕ, ◌+◌, ◌^◌, ◌<◌, Bool, List, length, drop, Option, None, Ok}
+use Rattle.std.specs.Prelude.{◌≡◌, ◌≢◌, ◌⊎◌, ℕ, ◌+◌, ◌^◌, ◌<◌, Bool, true, false, List, length, drop, Option, None, Ok}
 use Rattle.batch_store.specs.Setups.{Setting}
 use Rattle.batch_store.specs.Batches.{Submission}
 use Rattle.batch_store.specs.Books.{Listing}
@@ -15,6 +19,8 @@ use Rattle.log_blocks.specs.Files.{IsSame, recovered}
 use Rattle.log_blocks.specs.declared.fault.LogFault.{LogFault}
 use Rattle.log_blocks.specs.declared.fault.LogKind.{LogKind}
 use Rattle.log_disk.specs.Disk.{LeavesOnly}
+use Rattle.snap_file.specs.Origins.{IsOtherBook, own, unknown}
+use Rattle.snap_file.specs.declared.origin.Identity.{Identity}
 use Rattle.log_head.specs.Heads.{HasHead}
 use Rattle.log_head.specs.declared.head.LogHead.{LogHead}
 use Rattle.log_join.specs.Joins.{Joins, RefusesJoin}
@@ -29,6 +35,7 @@ use Rattle.open_log.specs.declared.fault.FindFault.{FindFault}
 use Rattle.log_start.specs.Found.{AreBytesOf, IsRefused, ReadsAs}
 use Rattle.log_start.specs.Records.{joined}
 use Rattle.log_start.specs.declared.fault.StartFault.{StartFault}
+use Rattle.log_start.specs.declared.owner.LogOwner.{LogOwner}
 
 -- ---- the file
 
@@ -57,26 +64,31 @@ pub record GoesOn {D : Type 0} (written : D → List ℕ) (may_leave : D → Lis
 
 -- ---- the list
 
-pub record IsJoined (s : Setting) (v : Listing) (bytes : List ℕ) (list : Listing) : Type 0 where
+pub record IsJoined (s : Setting) (o : LogOwner) (v : Listing) (bytes : List ℕ) (list : Listing) (i : Identity)
+    (t : Setting) : Type 0 where
   pub head : LogHead
   pub lists : List (List Submission)
   pub read : ReadsAs bytes head lists
+  pub book : IsOtherBook o.known head.identity → ⊥
   pub joins : Joins s v head (joined lists) list
+  pub whose : ((i ≡ head.identity) × (t ≡ head.setup)) ⊎ ((i ≡ own o.known head.identity o.drawn) × (t ≡ s))
 
 -- a folder that tells its files lent one of which these are the bytes
 abbrev pub AreOfFile : {D : Type 0} → Type 0 → (D → Type 0) → (D → List ℕ) → List ℕ → Type 0
 AreOfFile {D} folder_tells stored written bytes = folder_tells → (disk : D) × stored disk × (bytes ≡ written disk)
 
-abbrev pub IsList : {D : Type 0} → Type 0 → (D → Type 0) → (D → List ℕ) → Option ℕ → Setting → Listing → Listing
-    → Type 0
-IsList folder_tells stored written named s v list =
-    ((list ≡ v) × (folder_tells → named ≡ None))
-    ⊎ ((bytes : List ℕ) × IsJoined s v bytes list × AreOfFile folder_tells stored written bytes)
+abbrev pub IsList : {D : Type 0} → Type 0 → (D → Type 0) → (D → List ℕ) → Option ℕ → Setting → LogOwner → Listing →
+    Listing → Identity → Setting → Type 0
+IsList folder_tells stored written named s o v list i t =
+    ((list ≡ v) × (folder_tells → named ≡ None) × (o.must_be_there ≡ false)
+    × (i ≡ own o.known unknown.identity o.drawn) × (t ≡ s))
+    ⊎ ((bytes : List ℕ) × IsJoined s o v bytes list i t × AreOfFile folder_tells stored written bytes)
 
 -- ---- the refusals
 
 -- how each is told
 abbrev pub of_join : JoinFault → StartFault
+of_join JoinFault.OtherBook = StartFault.OtherBook
 of_join JoinFault.SetupDiffers = StartFault.SetupDiffers
 of_join (JoinFault.Gap first) = StartFault.Gap first
 of_join JoinFault.LinkDiffers = StartFault.LinkDiffers
@@ -99,9 +111,9 @@ pub record RefusesFile {D : Type 0} (tells : D → Type 0) (written : D → List
   pub new : D
   pub refused : IsRefused tells written failures old new len why
 
--- it is one, which doesn't belong to the known list
+-- it is one, which doesn't belong to the snapshot's book or to the known list
 pub record RefusesBoth {D : Type 0} (tells : D → Type 0) (written : D → List ℕ) (old : D) (len : ℕ) (s : Setting)
-    (v : Listing) (fault : StartFault) : Type 0 where
+    (o : LogOwner) (v : Listing) (fault : StartFault) : Type 0 where
   pub why : JoinFault
   pub fault_is : fault ≡ of_join why
   pub bytes : List ℕ
@@ -109,7 +121,7 @@ pub record RefusesBoth {D : Type 0} (tells : D → Type 0) (written : D → List
   pub lists : List (List Submission)
   pub are_bytes : AreBytesOf tells written old len bytes
   pub read : ReadsAs bytes head lists
-  pub refused : RefusesJoin s v head (joined lists) why
+  pub refused : RefusesJoin s o.known v head (joined lists) why
 
 -- A call of it failed while it was settled. It can be settled again, and a loss of power meanwhile left the log, with the
 -- next block or without.
@@ -143,21 +155,28 @@ pub record FailsToFind {S : Type 0} (calls : S → LogCall → Done → S → Ty
 
 -- where a file was found
 abbrev pub RefusesFound : {D : Type 0} → (D → Type 0) → (D → List ℕ) → (D → List ℕ → Type 0) → (D → ℕ)
-    → (D → ℕ → List ℕ → Type 0) → (D → ℕ) → (D → Bool) → D → ℕ → Log → Block → Setting → Listing → ℕ → ℕ → StartFault
-    → Type 0
-RefusesFound tells written may_leave moment left_since failures in_doubt file len l block s v old new fault =
+    → (D → ℕ → List ℕ → Type 0) → (D → ℕ) → (D → Bool) → D → ℕ → Log → Block → Setting → LogOwner → Listing → ℕ → ℕ
+    → StartFault → Type 0
+RefusesFound tells written may_leave moment left_since failures in_doubt file len l block s o v old new fault =
     (fault ≡ StartFault.Memory)
     ⊎ (RefusesFile tells written failures file len fault
-    ⊎ (RefusesBoth tells written file len s v fault
+    ⊎ (RefusesBoth tells written file len s o v fault
     ⊎ (FailsFile tells written may_leave moment left_since failures file l block fault
     ⊎ FailsNew in_doubt old new fault)))
 
+-- no file is under the name, and one must be there
+pub record IsMissing (folder_tells : Type 0) (named : Option ℕ) (o : LogOwner) (fault : StartFault) : Type 0 where
+  pub fault_is : fault ≡ StartFault.NotFound
+  pub none : folder_tells → named ≡ None
+  pub asked : o.must_be_there ≡ true
+
 -- where the names were synced
 abbrev pub RefusesStart : {D : Type 0} → Type 0 → (D → Type 0) → (D → Type 0) → (D → List ℕ) → (D → List ℕ → Type 0)
-    → (D → ℕ) → (D → ℕ → List ℕ → Type 0) → (D → ℕ) → (D → Bool) → Log → Block → Setting → Listing → ℕ → ℕ
-    → StartFault → Type 0
-RefusesStart {D} folder_tells stored tells written may_leave moment left_since failures in_doubt l block s v old new
-    fault =
+    → (D → ℕ) → (D → ℕ → List ℕ → Type 0) → (D → ℕ) → (D → Bool) → Option ℕ → Log → Block → Setting → LogOwner
+    → Listing → ℕ → ℕ → StartFault → Type 0
+RefusesStart {D} folder_tells stored tells written may_leave moment left_since failures in_doubt named l block s o v
+    old new fault =
     FailsNew in_doubt old new fault
+    ⊎ (IsMissing folder_tells named o fault
     ⊎ ((file : D) × (len : ℕ) × (folder_tells → stored file × (len ≡ length (written file)))
-    × RefusesFound tells written may_leave moment left_since failures in_doubt file len l block s v old new fault)
+    × RefusesFound tells written may_leave moment left_since failures in_doubt file len l block s o v old new fault))

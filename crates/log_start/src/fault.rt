@@ -11,7 +11,13 @@ pub enum StartFault {
     /// The file under the log's name isn't a log.
     #[error(fmt = write_log_fault)]
     Log(LogFault),
-    /// The log is of another setup.
+    /// No file is under the log's name, where one must be there.
+    #[error("log: NotFound")]
+    NotFound,
+    /// The log is of another book than the snapshot, or of another window of it.
+    #[error("log: OtherBook")]
+    OtherBook,
+    /// The log's setup has more rows or more columns.
     #[error("settings: LogDiffers")]
     SetupDiffers,
     /// The log begins at this place, behind the snapshot's end.

@@ -9,7 +9,7 @@ ghost use Rattle.log_head.specs.Links.{link_in};
 ghost use Rattle.log_join.specs.Joins.{known_entries};
 ghost use Rattle.open_log.specs.Rotations.{begun};
 ghost use Rattle.log_start.specs.Fronts.{HasSummed};
-ghost use Rattle.log_start.specs.Records.{IsLogOf};
+ghost use Rattle.log_start.specs.Records.{IsLogAs};
 
 use crate::join::count_of;
 use batch_store::{Batch, BookList, Entry, Setup};
@@ -73,15 +73,16 @@ fn add_batches(front: &mut Front, batches: &[Arc<Batch>])
 
 /// The head of a log that is begun behind all that a list tells: its number of batches, their total, and their link,
 /// the folded ones first. It costs one pass over the entries, and takes no memory.
-pub fn head_of(setup: &Setup, list: &BookList) -> LogHead
+pub fn head_of(setup: &Setup, identity: Identity, list: &BookList) -> LogHead
     requires accepted { AreAccepted setup.now (accepted_in list.now) }
+    ensures identity { result.identity ≡ identity }
     ensures setup { result.setup ≡ setup.now }
     ensures first { result.first ≡ length (known_entries list.now) }
     ensures total { result.total ≡ total_of_entries (known_entries list.now) }
     ensures link { result.link ≡ link_in (known_entries list.now) }
     ensures head { IsHead result }
     // A log of this head that has no blocks yet is a log of the list's entries.
-    ensures log { IsLogOf (begun (head_page result) result.first) (known_entries list.now) }
+    ensures log { IsLogAs (begun (head_page result) result.first) setup.now identity (known_entries list.now) }
 {
     let mut front = Front::new();
     add_folded(&mut front, &list.folded);
@@ -91,6 +92,6 @@ pub fn head_of(setup: &Setup, list: &BookList) -> LogHead
         first: count_of(list),
         total: front.total,
         link: front.link.value(),
-        identity: Identity::unknown(),
+        identity,
     }
 }

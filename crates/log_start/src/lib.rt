@@ -4,6 +4,7 @@
 mod fault;
 mod head;
 mod join;
+mod owner;
 mod read;
 mod settle;
 mod start;
@@ -11,4 +12,5 @@ mod told;
 
 pub use fault::StartFault;
 pub use head::head_of;
+pub use owner::LogOwner;
 pub use start::{Started, start_log};

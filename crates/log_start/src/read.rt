@@ -70,7 +70,7 @@ fn flatten(alloc: Global, blocks: Vec<Block>) -> Result<Vec<Arc<Batch>>, AllocEr
 
 // Takes a log apart that was read of a file of at most 2^40 bytes.
 fn take_apart(alloc: Global, file: LogFile) -> Result<FoundLog, AllocError>
-    requires { file.head.first ≤ 1000000 }
+    requires { file.head.first ≤ 2 ^ 30 }
     ensures { IfOk result (λ log. (bytes : List ℕ) → IsBytes bytes → length bytes ≤ most_bytes →
         HoldsLog bytes file → IsFound bytes log) }
 {
@@ -96,7 +96,7 @@ fn read_source<D: LogDisk>(
     requires failures { D.failure_count source.old.disk.now + 1 < 2 ^ 64 }
     requires begins { source.old.at ≡ 0 }
     ensures same_reference { OnOk result (source.new.disk.ghost_name ≡ source.old.disk.ghost_name) }
-    ensures first { IfOk result (λ file. file.head.first ≤ 1000000) }
+    ensures first { IfOk result (λ file. file.head.first ≤ 2 ^ 30) }
     ensures none_failed { OnOk result (D.failure_count source.new.disk.now ≡ D.failure_count source.old.disk.now) }
     ensures same { D.tells source.old.disk.now → OnOk result (IsAsBefore D.tells D.written D.may_leave D.moment
         D.left_since source.old.disk.now source.new.disk.now) }
@@ -113,7 +113,7 @@ fn read_file<D: LogDisk>(alloc: Global, disk: &mut D, size: u64) -> Result<LogFi
     requires sound { D.in_doubt disk.old ≡ false }
     requires failures { D.failure_count disk.old + 1 < 2 ^ 64 }
     ensures sound { OnOk result (D.in_doubt disk.new ≡ false) }
-    ensures first { IfOk result (λ file. file.head.first ≤ 1000000) }
+    ensures first { IfOk result (λ file. file.head.first ≤ 2 ^ 30) }
     ensures none_failed { OnOk result (D.failure_count disk.new ≡ D.failure_count disk.old) }
     ensures same { D.tells disk.old → OnOk result (IsAsBefore D.tells D.written D.may_leave D.moment D.left_since
         disk.old disk.new) }

@@ -10,7 +10,7 @@ ghost use Rattle.log_file.specs.Logs.{Log};
 ghost use Rattle.log_file.specs.Writer.{IsSettled};
 ghost use Rattle.log_folder.specs.Names.{KeepsName};
 ghost use Rattle.log_start.specs.Found.{AreBytesOf};
-ghost use Rattle.log_start.specs.Records.{IsLogOf};
+ghost use Rattle.log_start.specs.Records.{IsLogAs};
 ghost use Rattle.log_start.specs.Starts.{FailsNew, FailsToFind, GoesOn, IsJoined, IsList, MayGoOn, RefusesFound};
 ghost use Rattle.log_start.specs.Starts.{RefusesStart};
 ghost use Rattle.log_start.specs.declared.fault.StartFault.{StartFault};
@@ -19,6 +19,7 @@ ghost use Rattle.open_log.specs.Rotations.{HasFound};
 use crate::fault::StartFault;
 use crate::head::head_of;
 use crate::join::{count_of, join_found};
+use crate::owner::LogOwner;
 use crate::read::read_found;
 use crate::settle::settle_found;
 use crate::told::{fault_of_log, fault_of_rotate};
@@ -27,25 +28,33 @@ use log_folder::{FoundFile, LogFolder};
 use log_head::encode_head;
 use log_page::PAGE;
 use open_log::{FindFault, OpenLog, begin_log, find_log};
+use snap_file::Identity;
 use std::alloc::Global;
 
-/// A log in use, and the list of all that it and the snapshot tell.
+/// A log in use, the list of all that it and the snapshot have, and whose the log is. Where that isn't known, the log's
+/// version doesn't say it. `setup` is that of the log's head: where it is another than the server's, the log is begun
+/// anew before a block is appended.
 #[derive(Drop)]
 pub struct Started<D> {
     pub log: OpenLog<D>,
     pub list: BookList,
+    pub identity: Identity,
+    pub setup: Setup,
 }
 
 // Begins a log behind a list, in the place of what stands under the name.
 fn begin_behind<F: LogFolder>(
     folder: &mut F,
     setup: &Setup,
+    identity: Identity,
     list: BookList,
 ) -> Result<Started<F::Disk>, StartFault>
     requires failures { F.failure_count folder.old + 1 < 2 ^ 64 }
     requires accepted { AreAccepted setup.now (accepted_in list) }
     ensures list { IfOk result (λ s. s.list ≡ list) }
-    ensures log { IfOk result (λ s. (l : Log) × IsLogOf l (known_entries list) × (F.tells folder.old →
+    ensures identity { IfOk result (λ s. s.identity ≡ identity) }
+    ensures setup { IfOk result (λ s. s.setup ≡ setup.now) }
+    ensures log { IfOk result (λ s. (l : Log) × IsLogAs l s.setup s.identity (known_entries s.list) × (F.tells folder.old →
         IsSettled F.Disk.written F.Disk.may_leave s.log.file.disk s.log.writer l)) }
     ensures told { F.tells folder.old → IfOk result (λ s. F.Disk.tells s.log.file.disk) }
     ensures named { F.tells folder.old → IfOk result (λ s. (F.named folder.new ≡ Some s.log.file.number)
@@ -62,11 +71,16 @@ fn begin_behind<F: LogFolder>(
     ensures why { IfErr result (FailsNew F.Disk.in_doubt (F.failure_count folder.old)
         (F.failure_count folder.new)) }
 {
-    let head = head_of(setup, &list);
+    let head = head_of(setup, identity, &list);
     let mut page = [0; PAGE];
     encode_head(&mut page, &head);
     match begin_log(folder, &page, head.first) {
-        Ok(log) => Ok(Started { log, list }),
+        Ok(log) => Ok(Started {
+            log,
+            list,
+            identity,
+            setup: *setup,
+        }),
         Err(fault) => Err(fault_of_rotate(fault)),
     }
 }
@@ -76,6 +90,7 @@ fn start_from<F: LogFolder>(
     folder: &mut F,
     alloc: Global,
     setup: &Setup,
+    owner: &LogOwner,
     known: BookList,
     found: FoundFile<F::Disk>,
 ) -> Result<Started<F::Disk>, StartFault>
@@ -90,9 +105,9 @@ fn start_from<F: LogFolder>(
     requires none_failed { F.Disk.failure_count found.file.disk ≡ 0 }
     requires failures { F.failure_count folder.old + 1 < 2 ^ 64 }
     requires accepted { AreAccepted setup.now (accepted_in known) }
-    ensures list { IfOk result (λ s. (bytes : List ℕ) × IsJoined setup.now known bytes s.list
+    ensures list { IfOk result (λ s. (bytes : List ℕ) × IsJoined setup.now owner.now known bytes s.list s.identity s.setup
         × AreBytesOf F.Disk.tells F.Disk.written found.file.disk found.length bytes) }
-    ensures log { IfOk result (λ s. (l : Log) × IsLogOf l (known_entries s.list) × (F.tells folder.old →
+    ensures log { IfOk result (λ s. (l : Log) × IsLogAs l s.setup s.identity (known_entries s.list) × (F.tells folder.old →
         IsSettled F.Disk.written F.Disk.may_leave s.log.file.disk s.log.writer l)) }
     ensures file { F.tells folder.old → IfOk result (λ s. (s.log.writer.page ≡ 1)
         ⊎ GoesOn F.Disk.written F.Disk.may_leave F.Disk.moment F.Disk.left_since found.file.disk s.log.file.disk
@@ -110,7 +125,7 @@ fn start_from<F: LogFolder>(
     ensures tells { F.tells folder.old ↔ F.tells folder.new }
     ensures failures { OnOk result (F.failure_count folder.new ≡ F.failure_count folder.old) }
     ensures why { IfErr result (λ fault. RefusesFound F.Disk.tells F.Disk.written F.Disk.may_leave F.Disk.moment
-        F.Disk.left_since F.Disk.failure_count F.Disk.in_doubt found.file.disk found.length kept.0 kept.1 setup.now known
+        F.Disk.left_since F.Disk.failure_count F.Disk.in_doubt found.file.disk found.length kept.0 kept.1 setup.now owner.now known
         (F.failure_count folder.old) (F.failure_count folder.new) fault) }
 {
     let mut file = found.file;
@@ -118,23 +133,31 @@ fn start_from<F: LogFolder>(
         Ok(log) => log,
         Err(fault) => return Err(fault_of_log(fault)),
     };
-    let list = match join_found(alloc, setup, known, &log) {
+    let list = match join_found(alloc, setup, &owner.known, known, &log) {
         Ok(list) => list,
         Err(fault) => return Err(fault),
     };
     // A log that ends before the snapshot does has no place for the next batch.
     if log.end.next < count_of(&list) {
-        return begin_behind(folder, setup, list);
+        let identity = owner.known.or_else(log.head.identity, owner.drawn);
+        return begin_behind(folder, setup, identity, list);
     }
     match settle_found(file, &log) {
-        Ok(log) => Ok(Started { log, list }),
+        Ok(in_use) => Ok(Started {
+            log: in_use,
+            list,
+            identity: log.head.identity,
+            setup: log.head.setup,
+        }),
         Err(fault) => Err(fault),
     }
 }
 
 /// Starts the log of a folder behind a snapshot's list, `known`: what the log has behind the list's end belongs to it
 /// too. The file of the log goes on behind its last block; where there is none, or one that ends before the list does,
-/// a new log is begun at the list's end.
+/// a new log is begun at the list's end. `owner` says whose that is, and whether a log must be there. A log of a
+/// version that doesn't say whose it is stays so, and so does one whose setup is another but fits into this one: the
+/// caller begins it anew.
 ///
 /// The names are synced first of all, since a kill may have left a rename that isn't durable. Who may meet another that
 /// starts the same log takes the lock of its path before. It takes time in proportion to the log's bytes, and the
@@ -146,8 +169,9 @@ fn start_from<F: LogFolder>(
 /// that or a new log of the same list.
 ///
 /// - `Log` with its first fault where the file isn't a log, of more than 2^40 bytes, or can't be read.
-/// - `SetupDiffers`, `Gap`, `LinkDiffers`, `EntryDiffers` and `NotFresh`, the first that stands in this order, where the
-///   log doesn't belong to the setup and the list.
+/// - `NotFound` where no file is under the name and one must be there.
+/// - `OtherBook`, `SetupDiffers`, `Gap`, `LinkDiffers`, `EntryDiffers` and `NotFresh`, the first that holds in this
+///   order, where the log doesn't belong to the snapshot, the setup and the list.
 /// - `Create` where the file can't be opened, and `Create`, `Write`, `Sync` and `Rename` where that step of a new log
 ///   failed. `Sync` too where the names couldn't be synced, or a call failed that settles the file.
 /// - `Memory` where memory was refused.
@@ -155,6 +179,7 @@ pub fn start_log<F: LogFolder>(
     folder: &mut F,
     alloc: Global,
     setup: &Setup,
+    owner: &LogOwner,
     known: BookList,
 ) -> Result<Started<F::Disk>, StartFault>
     // The log that a file under the name has, and the next block, of which it may have any part.
@@ -164,16 +189,17 @@ pub fn start_log<F: LogFolder>(
     requires failures { F.failure_count folder.old + 1 < 2 ^ 64 }
     requires accepted { AreAccepted setup.now (accepted_in known) }
 
-    // The list is the known one, or that which it and the log make.
+    // The list is the known one, or that which it and the log make; and the log is the snapshot's, or of one that neither
+    // says.
     ensures list { IfOk result (λ s. IsList (F.tells folder.old) (F.stored folder.old) F.Disk.written
-        (F.named folder.old) setup.now known s.list) }
+        (F.named folder.old) setup.now owner.now known s.list s.identity s.setup) }
     ensures accepted { IfOk result (λ s. AreAccepted setup.now (accepted_in s.list)) }
     ensures begins { IfOk result (λ s. IsPrefix (known_entries known) (known_entries s.list)) }
     ensures base { IfOk result (λ s. (s.list.base ≡ known.base) × (s.list.folded ≡ known.folded)) }
     ensures based { HasBase setup.now known → IfOk result (λ s. HasBase setup.now s.list) }
 
-    // The log tells all entries of the list, and is durable.
-    ensures log { IfOk result (λ s. (l : Log) × IsLogOf l (known_entries s.list) × (F.tells folder.old →
+    // The log tells all entries of the list, under the setup that is told, and is durable.
+    ensures log { IfOk result (λ s. (l : Log) × IsLogAs l s.setup s.identity (known_entries s.list) × (F.tells folder.old →
         IsSettled F.Disk.written F.Disk.may_leave s.log.file.disk s.log.writer l)) }
     ensures told { F.tells folder.old → IfOk result (λ s. F.Disk.tells s.log.file.disk) }
     // A loss of power from then on leaves it under the name.
@@ -199,13 +225,17 @@ pub fn start_log<F: LogFolder>(
         FailsToFind F.call_gives folder.old folder.new (F.failure_count folder.old) (F.failure_count folder.new) fault
         ⊎ ((found : F) × HasFound F.call_gives folder.old found
         × RefusesStart (F.tells folder.old) (F.stored folder.old) F.Disk.tells F.Disk.written F.Disk.may_leave
-        F.Disk.moment F.Disk.left_since F.Disk.failure_count F.Disk.in_doubt kept.0 kept.1 setup.now known
-        (F.failure_count folder.old) (F.failure_count folder.new) fault)) }
+        F.Disk.moment F.Disk.left_since F.Disk.failure_count F.Disk.in_doubt (F.named folder.old) kept.0 kept.1
+        setup.now owner.now known (F.failure_count folder.old) (F.failure_count folder.new) fault)) }
 {
     match find_log(folder) {
         Err(FindFault::Sync) => Err(StartFault::Sync),
         Err(FindFault::Open) => Err(StartFault::Create),
-        Ok(None) => begin_behind(folder, setup, known),
-        Ok(Some(found)) => start_from(folder, alloc, setup, known, found),
+        Ok(None) if owner.must_be_there => Err(StartFault::NotFound),
+        Ok(None) => {
+            let identity = owner.known.or_else(Identity::unknown(), owner.drawn);
+            begin_behind(folder, setup, identity, known)
+        }
+        Ok(Some(found)) => start_from(folder, alloc, setup, owner, known, found),
     }
 }

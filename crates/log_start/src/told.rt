@@ -25,6 +25,7 @@ pub fn fault_of_join(fault: JoinFault) -> StartFault
     ensures { result ≡ of_join fault }
 {
     match fault {
+        JoinFault::OtherBook => StartFault::OtherBook,
         JoinFault::SetupDiffers => StartFault::SetupDiffers,
         JoinFault::Gap { first } => StartFault::Gap { first },
         JoinFault::LinkDiffers => StartFault::LinkDiffers,

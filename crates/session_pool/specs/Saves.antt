@@ -2,6 +2,8 @@
 --     IsSaved saves d path v a
 --                     where there is a path, the disk d has answered that this was saved under it as what was accepted,
 --                     folded batches included, with its setup
+--     of_origin saves o
+--                     what a disk has answered to be saved as of this origin
 --     IsBegun names d log path es
 --                     where there is a path of a log and one to save to, the place d has answered that a log of these
 --                     entries was given the name under the log's path
@@ -9,11 +11,16 @@ use Rattle.std.specs.Prelude.{ℕ, List, Option, Some, None, String, string_byte
 use Rattle.batch_store.specs.Setups.{Setting}
 use Rattle.batch_store.specs.declared.verdict.Entry.{Entry}
 use Rattle.batch_store.specs.Accepted.{Accepted}
+use Rattle.snap_file.specs.declared.origin.Origin.{Origin}
 
 abbrev pub IsSaved : {D Z : Type 0} → (D → List ℕ → Setting → Accepted → Type 0) → D → Option (String Z) →
     Setting → Accepted → Type 0
 IsSaved saves d None v a = Unit {0}
 IsSaved saves d (Some path) v a = saves d (string_bytes path) v a
+
+abbrev pub of_origin : {D : Type 0} → (D → List ℕ → Origin → Setting → Accepted → Type 0) → Origin → D → List ℕ →
+    Setting → Accepted → Type 0
+of_origin saves o d path = saves d path o
 
 abbrev pub IsBegun : {D Z : Type 0} → (D → List ℕ → List Entry → Type 0) → D → Option (String Z) → Option (String Z) →
     List Entry → Type 0

@@ -3,11 +3,13 @@ ghost use Rattle.std.specs.Prelude.{◌≡◌, ◌⊎◌, ℕ, List, true, false
 ghost use Rattle.batch_store.specs.declared.verdict.Entry.{Entry};
 ghost use Rattle.batch_store.specs.Accepted.{entries_in};
 ghost use Rattle.batch_store.specs.Books.{AreAccepted, accepted_in};
+ghost use Rattle.batch_store.specs.Setups.{Setting};
+ghost use Rattle.snap_file.specs.declared.origin.Identity.{Identity};
 
 use batch_store::{BookList, Setup};
 use log_desk::Log;
 use log_folder::LogNews;
-use snap_file::SaveFault;
+use snap_file::{Identity, SaveFault};
 use std::alloc::Global;
 use std::sync::Arc;
 
@@ -22,18 +24,23 @@ pub trait LogPlace<L: Log> {
     // place of another was named by it.
     ghost names: { Self → List ℕ → List Entry → Type 0 };
 
-    /// Makes a new log beside the one under `path`, without blocks, behind what the list tells. The one in use isn't
-    /// touched.
+    // What it has answered to be begun: beside the log under this path, a log of this setup and this identity, after
+    // these entries.
+    ghost begins: { Self → List ℕ → Setting → Identity → List Entry → Type 0 };
+
+    /// Makes a new log of this setup and this identity beside the one under `path`, without blocks, after what the list
+    /// has. The one in use isn't touched.
     ///
     /// # Errors
     ///
-    /// `Memory`, `Create`, `Write` or `Sync` where that step failed. The new file is removed then, where that can be
-    /// done.
+    /// `Memory`, `Create`, `Write` or `Sync` where that step failed; `Create` too where the log of another book is under
+    /// `path`. The new file is removed then, where that can be done.
     fn begin_log(
         &self,
         alloc: Global,
         path: &str,
         snapshot: Option<&str>,
+        identity: Identity,
         setup: &Setup,
         list: &BookList,
         news: Option<&Arc<LogNews>>,
@@ -41,13 +48,17 @@ pub trait LogPlace<L: Log> {
         requires accepted { AreAccepted setup.now (accepted_in list.now) }
         ensures working { IfOk result (λ new. L.failed new ≡ false) }
         ensures durable { IfOk result (λ new. L.durable new ≡ entries_in (accepted_in list.now)) }
-        ensures synced { IfOk result (λ new. L.was_synced (L.durable new)) };
+        ensures synced { IfOk result (λ new. L.was_synced (L.durable new)) }
+        ensures begun { OnOk result (begins self.now path.now setup.now identity
+            (entries_in (accepted_in list.now))) };
 
-    /// Gives the new log the name, and makes that durable. Then it is in use, and the other one is closed.
+    /// Gives the new log, which is of this identity, the name, and makes that durable. Then it is in use, and the other
+    /// one is closed.
     ///
     /// # Errors
     ///
-    /// `Memory` where the folder couldn't be named: the log in use stands as it was, and the new one is given up.
+    /// `Create` where the log of another book is under `path`, and `Memory` where the folder couldn't be named: the log in
+    /// use is as it was, and the new one is given up.
     /// `Rename` where the new log wasn't renamed or the folder not synced. Then none is in use, since a loss of power
     /// may leave either: the log is failed.
     fn name_log(
@@ -55,6 +66,7 @@ pub trait LogPlace<L: Log> {
         alloc: Global,
         path: &str,
         snapshot: Option<&str>,
+        identity: Identity,
         in_use: &mut L,
         new: L,
         news: Option<&Arc<LogNews>>,

@@ -11,16 +11,18 @@ use byte_io::WriteFault;
 use locked_engine::{Engine, Named, Version};
 use log_desk::{DeskFault, Durable, Group, Log, LogDesk, Turn, TurnWork};
 use log_folder::LogNews;
-use snap_file::SaveFault;
+use snap_file::{Origin, SaveFault};
 use std::alloc::Global;
 use std::sync::ledger::Ledger;
 use std::sync::{Arc, Wait};
 
-/// Where a log stands, and the snapshot beside it, if there is one; and where it is noted why a call fails, if anywhere.
+/// The paths of a log and of the snapshot beside it, if there is one, and what both say of themselves; and where it is
+/// noted why a call fails, if anywhere.
 #[derive(Clone, Copy)]
 pub(crate) struct LogNames<'a> {
     pub log: &'a str,
     pub snapshot: Option<&'a str>,
+    pub origin: Origin,
     pub news: Option<&'a Arc<LogNews>>,
 }
 
@@ -45,12 +47,22 @@ fn begin<N: Named, L: Log, R: LogPlace<L>>(
 ) -> Result<Turn<N, L>, SaveFault>
     requires accepted { AreAccepted setup.now (accepted_in list.now) }
     requires shown { shown ≡ entries_in (accepted_in list.now) }
-    ensures { IfOk result (λ new. new.failed ≡ false) }
+    ensures works { IfOk result (λ new. new.failed ≡ false) }
+    ensures begun { OnOk result (R.begins rt.now names.entry.log.now setup.now names.entry.origin.identity
+        (entries_in (accepted_in list.now))) }
 {
     let Ok(group) = Group::new(alloc, shown.again()) else {
         return Err(SaveFault::Memory);
     };
-    match rt.begin_log(alloc, names.log, names.snapshot, setup, list, names.news) {
+    match rt.begin_log(
+        alloc,
+        names.log,
+        names.snapshot,
+        names.origin.identity,
+        setup,
+        list,
+        names.news,
+    ) {
         Ok(log) => Ok(Turn::new(log, Durable::all_of(&shown), group)),
         Err(fault) => Err(fault),
     }
@@ -144,7 +156,15 @@ impl<'a, N: Named, H: Ledger, L: Log, R: Wait + LogPlace<L>> TurnWork<N, L, Resu
             return Err(not_written(fault));
         }
         let (new, whole) = new.into_log();
-        if let Err(fault) = rt.name_log(alloc, names.log, names.snapshot, log, new, names.news) {
+        if let Err(fault) = rt.name_log(
+            alloc,
+            names.log,
+            names.snapshot,
+            names.origin.identity,
+            log,
+            new,
+            names.news,
+        ) {
             return Err(fault);
         }
         durable.learn(&whole);
@@ -170,9 +190,13 @@ pub(crate) fn rotate<N: Named, H: Ledger, L: Log, R: Wait + Disk + LogPlace<L>>(
 ) -> Result<(), SaveFault>
     requires accepted { AreAccepted N.setup (accepted_in list.now) }
     // The new log has none of the list's batches, so the list must stand in the snapshot.
-    requires saved { IsSomeAnd names.snapshot (λ path. R.saves rt.now path.now N.setup (accepted_in list.now)) }
+    requires saved { IsSomeAnd names.snapshot (λ path.
+        R.saves rt.now path.now names.origin N.setup (accepted_in list.now)) }
     requires shown { shown ≡ entries_in (accepted_in list.now) }
-    ensures { OnOk result ((entries : List Entry) × R.names rt.now names.entry.log.now entries) }
+    ensures named { OnOk result ((entries : List Entry) × R.names rt.now names.entry.log.now entries) }
+    // It is of the snapshot's book and setup.
+    ensures begun { OnOk result (R.begins rt.now names.entry.log.now N.setup names.entry.origin.identity
+        (entries_in (accepted_in list.now))) }
 {
     let mut new = match begin(rt, alloc, names, &engine.setup(), list, shown) {
         Ok(new) => new,
@@ -212,16 +236,28 @@ pub(crate) fn rotate_last<L: Log, R: Disk + LogPlace<L>>(
     in_use: L,
 ) -> Result<(), SaveFault>
     requires accepted { AreAccepted setup.now (accepted_in list.now) }
-    requires saved { IsSomeAnd names.snapshot (λ path. R.saves rt.now path.now setup.now (accepted_in list.now)) }
-    ensures { OnOk result (R.names rt.now names.entry.log.now (entries_in (accepted_in list.now))) }
+    requires saved { IsSomeAnd names.snapshot (λ path.
+        R.saves rt.now path.now names.origin setup.now (accepted_in list.now)) }
+    ensures named { OnOk result (R.names rt.now names.entry.log.now (entries_in (accepted_in list.now))) }
+    ensures begun { OnOk result (R.begins rt.now names.entry.log.now setup.now names.entry.origin.identity
+        (entries_in (accepted_in list.now))) }
 {
-    match rt.begin_log(alloc, names.log, names.snapshot, setup, list, names.news) {
+    match rt.begin_log(
+        alloc,
+        names.log,
+        names.snapshot,
+        names.origin.identity,
+        setup,
+        list,
+        names.news,
+    ) {
         Ok(new) => {
             let mut in_use = in_use;
             rt.name_log(
                 alloc,
                 names.log,
                 names.snapshot,
+                names.origin.identity,
                 &mut in_use,
                 new,
                 names.news,

@@ -5,20 +5,22 @@ use locked_engine::{Engine, Named};
 use log_desk::{DeskFigures, Log, LogDesk};
 use log_folder::LogNews;
 use server_counters::{CODES, Counters, KINDS, LastSave, Machine, VERSION};
+use snap_file::Identity;
 use std::alloc::{AllocError, Global};
 use std::sync::Wait;
 use std::sync::ledger::Ledger;
 use std::time::Duration;
 use wire_proto::{Amount, Figure, Label, Labels};
 
-/// What is looked at for the numbers: the counters and the log, where there are such, and how many batches were
-/// accepted.
+/// What is looked at for the numbers: the counters and the log, where there are such, how many batches were accepted,
+/// and whose the files are.
 #[derive(Drop)]
 pub(crate) struct Sight<'a, N: Named, L: Log> {
     pub(crate) counters: Option<&'a Counters>,
     pub(crate) desk: Option<&'a LogDesk<N, L>>,
     pub(crate) news: Option<&'a LogNews>,
     pub(crate) batches: u64,
+    pub(crate) identity: Identity,
 }
 
 // A number without labels.
@@ -236,6 +238,10 @@ pub(crate) fn figures_of<N: Named, H: Ledger, L: Log, R: Wait + Machine>(
         labels: Labels::None,
         amount: Amount::Word(VERSION),
     })?;
+    if sight.identity.has_book() {
+        let book = Amount::Hex(sight.identity.book());
+        out.push(labelled("book", "id", book, 1))?;
+    }
     if let Some(counters) = sight.counters {
         push_counters(rt, &mut out, counters, sight.batches)?;
     }

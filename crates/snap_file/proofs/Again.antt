@@ -11,7 +11,8 @@ use Rattle.hyper_matrix.specs.Counts.{Place, count_sum}
 use Rattle.hyper_matrix.specs.Shared.{LiesWithin}
 use Rattle.batch_store.specs.Setups.{Setting}
 use Rattle.snap_file.proofs.Kept.{IsSetup, CutsFrom}
-use Rattle.snap_file.specs.Spelling.{number_bytes, mark, old_version, version, head_bytes, cell_bytes, cells_bytes}
+use Rattle.snap_file.specs.Spelling.{number_bytes, mark, old_version, version, most_batches_of, head_bytes, cell_bytes}
+use Rattle.snap_file.specs.Spelling.{cells_bytes}
 use Rattle.snap_file.specs.Table.{give, outside, is_below, head, cuts_behind, Tally, cells_behind}
 use Rattle.snap_file.specs.declared.head.Head.{Head}
 use Rattle.snap_file.specs.declared.fault.SnapFault.TheVariants.{BadMark, BadVersion, BadHead, BadBatch, OutOfOrder}
@@ -36,10 +37,10 @@ abbrev pub head_of : ℕ → Setting → ℕ → ℕ → Head
 head_of v s batches total_all = record { setup = s; version = v; batches = batches; total = total_all }
 
 pub skips_head : (v : ℕ) (s : Setting) (batches total_all : ℕ) → old_version ≤ v → v ≤ version → IsSetup s →
-    batches ≤ s.max_batches → total_all ≤ s.limit →
+    s.max_batches ≤ most_batches_of v → batches ≤ s.max_batches → total_all ≤ s.limit →
     Skips head (head_of v s batches total_all) (head_bytes v s batches total_all)
 unfolding head
-skips_head v s batches total_all low high h few fits =
+skips_head v s batches total_all low high h allowed few fits =
     let few_cuts = h.few_cuts in let shards = h.shards.1 in let limit = h.limit.1 in let most = h.batches.1 in
     let x = head_of v s batches total_all in
     let r = h.rows.1 in let c = h.cols.1 in
@@ -59,8 +60,8 @@ skips_head v s batches total_all low high h few fits =
     (skips_number w64 (2 ^ 64) wide64 s.limit _ x _ limit (skips_test (outside 1 (2 ^ 64 - 1) s.limit) BadHead _ x _
     (inside 1 (2 ^ 64 - 1) s.limit h.limit.0 (omega arith))
     (skips_number w64 (2 ^ 64) wide64 s.max_batches _ x _ (omega arith)
-    (skips_test (outside 1 1000000 s.max_batches) BadHead _ x _
-    (inside 1 1000000 s.max_batches h.batches.0 h.batches.1)
+    (skips_test (outside 1 (most_batches_of v) s.max_batches) BadHead _ x _
+    (inside 1 (most_batches_of v) s.max_batches h.batches.0 allowed)
     (skips_number w64 (2 ^ 64) wide64 batches _ x _ (omega arith)
     (skips_test (outside 0 s.max_batches batches) BadHead _ x _ (inside 0 s.max_batches batches (omega arith) few)
     (skips_number w64 (2 ^ 64) wide64 total_all _ x _ (omega arith)

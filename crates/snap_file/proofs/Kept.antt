@@ -30,7 +30,7 @@ pub record IsSetup (s : Setting) : Type 0 where
   pub cuts : CutsFrom 1 s.cuts
   pub shards : (1 ≤ s.shards) × (s.shards ≤ 64)
   pub limit : (1 ≤ s.limit) × (s.limit < 2 ^ 64)
-  pub batches : (1 ≤ s.max_batches) × (s.max_batches ≤ 1000000)
+  pub batches : (1 ≤ s.max_batches) × (s.max_batches ≤ 2 ^ 30)
 
 -- no pair of client and number stands twice, and none of them among those before
 abbrev pub AreNew : List Entry → List Entry → Type 0
@@ -213,7 +213,7 @@ count_is a = length-append a.folded (entries_of a.list) ∙
 pub total_parts : (a : Accepted) → total_in a ≡ total_of_entries a.folded + list_total a.list
 total_parts a = total_of-append a.folded (entries_of a.list)
 
-pub few_batches : (s : Setting) (a : Accepted) → AreAccepted s a → length a.list ≤ 1000000
+pub few_batches : (s : Setting) (a : Accepted) → AreAccepted s a → length a.list ≤ 2 ^ 30
 few_batches s a h = omega (arith, h.few, count_is a, h.sound.batches.1)
 
 pub readable_of : (s : Setting) (a : Accepted) → IsKept s a → IsReadable s a

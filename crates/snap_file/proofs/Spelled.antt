@@ -24,7 +24,7 @@ use Rattle.batch_store.proofs.BookLaws.{entries-with}
 use Rattle.snap_file.proofs.Kept.{IsSetup, CutsFrom, AreNew, IsReadable, total_parts}
 use Rattle.crc32c.specs.Remainders.{checksum_of}
 use Rattle.snap_file.specs.Origins.{identity, origin, no_window, unknown, IsIdentity}
-use Rattle.snap_file.specs.Spelling.{flag, origin_bytes, origin_in, checked_version}
+use Rattle.snap_file.specs.Spelling.{flag, origin_bytes, origin_in, checked_version, old_most_batches, most_batches_of}
 use Rattle.snap_file.specs.declared.origin.Origin.{Origin}
 use Rattle.snap_file.specs.Spelling.{IsBytes, number_bytes, mark, old_version, version, head_bytes, cells_bytes}
 use Rattle.snap_file.specs.Spelling.{matrix_bytes, batch_bytes, entry_bytes, stands_in, IsBatch, IsEntry}
@@ -177,7 +177,16 @@ pub record HeadRead (k : Head → Reading) (v : Contents) (before rest : List �
   pub fits : h.total ≤ h.setup.limit
   pub low : old_version ≤ h.version
   pub high : h.version ≤ version
+  pub most : h.setup.max_batches ≤ most_batches_of h.version
   pub came : Came k v before rest h (head_bytes h.version h.setup h.batches h.total)
+
+-- no version allows more batches than the last
+fits_most : (n v : ℕ) → n ≤ most_batches_of v → n ≤ 2 ^ 30
+fits_most n v h = either (v == version) h
+  where
+    either : (test : Bool) → n ≤ cond test (2 ^ 30) old_most_batches → n ≤ 2 ^ 30
+    either true h = h
+    either false h = omega arith
 
 head_read : (k : Head → Reading) (v : Contents) (before rest : List ℕ) → IsBytes rest →
     head k (record { before = before; rest = rest }) ≡ Ok v → HeadRead k v before rest
@@ -222,12 +231,16 @@ head_read k v before rest fits e =
         cuts = c.are;
         shards = within 1 64 f6.value t6.0;
         limit = ((within 1 (2 ^ 64 - 1) f7.value t7.0).0, f7.below);
-        batches = within 1 1000000 f8.value t8.0;
+        batches = (
+          (within 1 (most_batches_of f2.value) f8.value t8.0).0,
+          fits_most f8.value f2.value ((within 1 (most_batches_of f2.value) f8.value t8.0).1),
+        );
       };
       few = (within 0 f8.value f9.value t9.0).1;
       fits = (within 0 f7.value f10.value t10.0).1;
       low = (within old_version version f2.value t2.0).0;
       high = (within old_version version f2.value t2.0).1;
+      most = (within 1 (most_batches_of f2.value) f8.value t8.0).1;
       came =
           came_behind k v before rest (number_bytes w64 mark) f1.before f1.left h _
           (subst (λ (n : ℕ). Stands before rest (number_bytes w64 n) f1.before f1.left) (one_value mark f1.value t1.0)
@@ -789,6 +802,7 @@ file_read v bytes fits e =
       high = first.high;
       unfolded_is = nothing_folded h.version past_is.m past_is.es all.list past_is.none_old;
       origin_is = second.old;
+      most = first.most;
       bytes_are = parts ∙ counted_as;
     } in
     let same : c ≡ v = ap (λ (x : Accepted). contents o h.setup (accepted x.base x.folded (x.list ++ all.list)))

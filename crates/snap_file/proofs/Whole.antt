@@ -21,7 +21,7 @@ use Rattle.batch_store.proofs.BookLaws.{entries-with}
 use Rattle.hyper_matrix.specs.Shared.{LiesWithin}
 use Rattle.snap_file.proofs.Kept.{AreNew, IsReadable, total_parts}
 use Rattle.snap_file.specs.Origins.{identity, origin, unknown, IsIdentity}
-use Rattle.snap_file.specs.Spelling.{flag, origin_bytes, origin_in, checked_version}
+use Rattle.snap_file.specs.Spelling.{flag, origin_bytes, origin_in, checked_version, most_batches_of}
 use Rattle.snap_file.specs.declared.origin.Origin.{Origin}
 use Rattle.snap_file.specs.Spelling.{old_version, version, head_bytes, cells_bytes, matrix_bytes, batch_bytes, entry_bytes}
 use Rattle.snap_file.specs.Spelling.{past_bytes, number_bytes, past_in, check_bytes, checked_bytes, batches_bytes, file_in}
@@ -479,10 +479,10 @@ rest_again v o s a p before more kept state counted =
 
 file_in_again : (v : ℕ) (o : Origin) (s : Setting) (a : Accepted) (more : List ℕ) → IsIdentity o.identity →
     IsReadable s a → old_version ≤ v → v ≤ version → (v ≡ old_version → a ≡ unfolded a.list) →
-    (v < version → o ≡ unknown) →
+    (v < version → o ≡ unknown) → s.max_batches ≤ most_batches_of v →
     reading_of (file_in v o s a ++ more) ≡ end (contents o s a) (record { before = file_in v o s a; rest = more })
 unfolding reading_of
-file_in_again v o s a more is kept low high none old =
+file_in_again v o s a more is kept low high none old allowed =
     let n = length a.list in let t = total_in a in
     let h = head_in v s a in
     let first_bytes = head_bytes v s n t ++ origin_in v o in
@@ -493,7 +493,7 @@ file_in_again v o s a more is kept low high none old =
     let z = batches_bytes v (x ++ y) a.list in
     let few = kept.few in let fits = kept.fits in let total_is = total_parts a in
     let first = skips_front h o (head_bytes v s n t) (origin_in v o)
-    (skips_head v s n t low high kept.setup (omega arith) (omega arith)) (origin_again v o is high old) in
+    (skips_head v s n t low high kept.setup allowed (omega arith) (omega arith)) (origin_again v o is high old) in
     ap (λ (l : List ℕ). front (λ (f : Head × Origin). check_in f.0.version (λ _. body f.0 f.1))
     (record { before = []; rest = l })) (append_assoc x (y ++ z) more)
     ∙ checked_again front (h, o) first_bytes (λ (f : Head × Origin). f.0.version)
@@ -509,5 +509,5 @@ pub file_again : (bytes : List ℕ) (o : Origin) (s : Setting) (a : Accepted) (m
     reading_of (bytes ++ more) ≡ end (contents o s a) (record { before = bytes; rest = more })
 file_again bytes o s a more named kept is =
     ap (λ (l : List ℕ). reading_of (l ++ more)) is.bytes_are
-    ∙ file_in_again is.file_version o s a more named kept is.low is.high is.unfolded_is is.origin_is
+    ∙ file_in_again is.file_version o s a more named kept is.low is.high is.unfolded_is is.origin_is is.most
     ∙ ap (λ (l : List ℕ). end (contents o s a) (record { before = l; rest = more })) (sym is.bytes_are)

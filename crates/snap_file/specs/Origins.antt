@@ -1,5 +1,5 @@
 -- Whose a file is, and whether a log goes with it.
-use Rattle.std.specs.Prelude.{◌≡◌, ℕ, ◌-◌, ◌<◌, ◌^◌, Bool, false, refl}
+use Rattle.std.specs.Prelude.{◌≡◌, ◌≢◌, ℕ, ◌-◌, ◌<◌, ◌^◌, ◌||◌, nat_le, Bool, true, false, refl, if◌then◌else◌}
 use Rattle.std.specs.Coded.{Coded, code_by, coded×, coded_ℕ, coded_bool}
 use Rattle.snap_file.specs.declared.origin.Identity.{Identity}
 use Rattle.snap_file.specs.declared.origin.Origin.{Origin}
@@ -24,6 +24,20 @@ pub record IsIdentity (i : Identity) : Type 0 where
   pub high : i.book_high < 2 ^ 64
   pub low : i.book_low < 2 ^ 64
   pub window : i.window < 2 ^ 64
+
+-- the book is known: its number isn't 0
+abbrev pub has_book : Identity → Bool
+has_book i = nat_le 1 i.book_high || nat_le 1 i.book_low
+
+-- both books are known, and they or their windows differ
+pub record IsOtherBook (i j : Identity) : Type 0 where
+  pub known : has_book i ≡ true
+  pub other_known : has_book j ≡ true
+  pub differ : i ≢ j
+
+-- whose the files of a server are: as the snapshot says, or else the log, and where neither does, as was drawn
+abbrev pub own : Identity → Identity → Identity → Identity
+own known found drawn = if has_book known then known else if has_book found then found else drawn
 
 abbrev pub coded_origin : Coded Origin
 coded_origin = code_by (ℕ × (ℕ × (ℕ × Bool))) (coded× coded_ℕ (coded× coded_ℕ (coded× coded_ℕ coded_bool)))

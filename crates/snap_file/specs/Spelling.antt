@@ -38,6 +38,13 @@ checked_version = 3
 abbrev pub version : ℕ
 version = 4
 
+-- the most batches that a setup may allow in an older version, and in a file of this one
+abbrev pub old_most_batches : ℕ
+old_most_batches = 1000000
+
+abbrev pub most_batches_of : ℕ → ℕ
+most_batches_of v = if v == version then 2 ^ 30 else old_most_batches
+
 -- the head of a file of this version, with the number of batches that are not folded and the total of all
 abbrev pub head_bytes : ℕ → Setting → ℕ → ℕ → List ℕ
 head_bytes v s batches total_all = concat (
@@ -144,13 +151,14 @@ pub record IsKept (s : Setting) (a : Accepted) : Type 0 where
   pub within : AllByRecursion (LiesWithin s.rows s.cols) (entries a.base)
 
 -- The bytes are a file of this origin, of this setup and of what was accepted, in one of the versions. The first has
--- nothing folded, and the last alone says whose it is.
+-- nothing folded, and the last alone says whose it is. Each has a setup of as many batches as it allows.
 pub record IsSpelled (bytes : List ℕ) (o : Origin) (s : Setting) (a : Accepted) : Type 0 where
   pub file_version : ℕ
   pub low : old_version ≤ file_version
   pub high : file_version ≤ version
   pub unfolded_is : file_version ≡ old_version → a ≡ unfolded a.list
   pub origin_is : file_version < version → o ≡ unknown
+  pub most : s.max_batches ≤ most_batches_of file_version
   pub bytes_are : bytes ≡ file_in file_version o s a
 
 -- The bytes are a snapshot of this origin, of this setup and of what was accepted.

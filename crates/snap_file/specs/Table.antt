@@ -14,7 +14,7 @@ use Rattle.batch_store.specs.Accepted.{Accepted, accepted, unfolded, entries_in,
 use Rattle.batch_store.specs.Batches.{submission}
 use Rattle.batch_store.specs.declared.verdict.Entry.{Entry}
 use Rattle.snap_file.specs.Origins.{identity, origin, unknown}
-use Rattle.snap_file.specs.Spelling.{mark, old_version, checked_version, version, stands_in}
+use Rattle.snap_file.specs.Spelling.{mark, old_version, checked_version, version, most_batches_of, stands_in}
 use Rattle.snap_file.specs.declared.origin.Origin.{Origin}
 use Rattle.snap_file.specs.declared.head.Head.{Head}
 use Rattle.snap_file.specs.declared.fault.SnapFault.{SnapFault}
@@ -103,23 +103,23 @@ cuts_behind (suc n) least cuts = do
   cut ← field_in w64 least (2 ^ 40) BadHead
   cuts_behind n (cut + 1) (cuts ++ cut ∷ [])
 
--- the fields of the head that make the setup
-abbrev pub setup_fields : Part Setting
-setup_fields = do
+-- the fields of the head that make the setup, which allows so many batches at most
+abbrev pub setup_fields : ℕ → Part Setting
+setup_fields most = do
   rows ← field_in w64 1 (2 ^ 60) BadHead
   cols ← field_in w64 1 (2 ^ 60) BadHead
   cut_count ← field_in w8 0 7 BadHead
   cuts ← cuts_behind cut_count 1 []
   shards ← field_in w8 1 64 BadHead
   limit ← field_in w64 1 (2 ^ 64 - 1) BadHead
-  max_batches ← field_in w64 1 1000000 BadHead
+  max_batches ← field_in w64 1 most BadHead
   give (record { rows = rows; cols = cols; cuts = cuts; shards = shards; limit = limit; max_batches = max_batches })
 
 unfoldable pub head : Part Head
 head = do
   _ ← field_in w64 mark mark BadMark
   file_version ← field_in w32 old_version version BadVersion
-  setup ← setup_fields
+  setup ← setup_fields (most_batches_of file_version)
   batches ← field_in w64 0 setup.max_batches BadHead
   total ← field_in w64 0 setup.limit BadHead
   give (record { setup = setup; version = file_version; batches = batches; total = total })

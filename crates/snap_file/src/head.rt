@@ -4,10 +4,11 @@ ghost use Rattle.cells.specs.Bounds.{IsDimension};
 ghost use Rattle.layer_cascade.specs.Cuts.{AreCuts};
 ghost use Rattle.batch_store.specs.Setups.{Setting, setting};
 ghost use Rattle.snap_file.specs.Table.{Reading, head, setup_fields, cuts_behind, named, origin_by};
+ghost use Rattle.snap_file.specs.Spelling.{most_batches_of};
 ghost use Rattle.snap_file.specs.Outcomes.{Task, HasJudged, Stops};
 
 use crate::fault::SnapFault;
-use crate::limits::{MARK, OLD_VERSION, VERSION};
+use crate::limits::{MARK, OLD_MAX_BATCHES, OLD_VERSION, VERSION};
 use crate::origin::{Identity, Origin};
 use crate::reader::ByteReader;
 use batch_store::{MAX_BATCHES, MAX_SHARDS, Setup};
@@ -40,7 +41,7 @@ fn setup_of(
     requires cuts { AreCuts (take cut_count cuts) }
     requires shards { (1 ≤ shards) × (shards ≤ 64) }
     requires limit { 1 ≤ limit }
-    requires batches { (1 ≤ max_batches) × (max_batches ≤ 1000000) }
+    requires batches { (1 ≤ max_batches) × (max_batches ≤ 2 ^ 30) }
     ensures { result ≡ setting rows cols (take cut_count cuts) shards limit max_batches }
 {
     let listed = &cuts[..cut_count];
@@ -77,14 +78,27 @@ fn read_cuts<R: Source>(
     Ok(cuts)
 }
 
-/// Reads the setup.
-fn read_setup<R: Source>(reader: &mut ByteReader, r: &mut R) -> Result<Setup, SnapFault>
+// The most batches that a setup may allow in a file of this version.
+fn most_batches(version: u32) -> u64
+    ensures value { result ≡ most_batches_of version }
+    ensures fits { result ≤ 2 ^ 30 }
+{
+    if version == VERSION {
+        MAX_BATCHES
+    } else {
+        OLD_MAX_BATCHES
+    }
+}
+
+/// Reads the setup, which is to allow so many batches at most.
+fn read_setup<R: Source>(reader: &mut ByteReader, r: &mut R, most: u64) -> Result<Setup, SnapFault>
     requires failures { R.failure_count r.old + 1 < 2 ^ 64 }
+    requires most { most ≤ 2 ^ 30 }
     ensures ok { IfOk result (λ setup. (s : R) (task : Task) (k : Setting → Reading) →
-        HasJudged R.read_gives R.failure_count task s r.old reader.old (setup_fields k) →
+        HasJudged R.read_gives R.failure_count task s r.old reader.old (setup_fields most k) →
         HasJudged R.read_gives R.failure_count task s r.new reader.new (k setup)) }
     ensures err { IfErr result (λ f. (s : R) (task : Task) (k : Setting → Reading) →
-        HasJudged R.read_gives R.failure_count task s r.old reader.old (setup_fields k) →
+        HasJudged R.read_gives R.failure_count task s r.old reader.old (setup_fields most k) →
         Stops R.read_gives R.failure_count (R.at_end r.new) task s r.new f) }
     ensures no_failure { OnOk result (R.failure_count r.new ≡ R.failure_count r.old) }
 {
@@ -94,7 +108,7 @@ fn read_setup<R: Source>(reader: &mut ByteReader, r: &mut R) -> Result<Setup, Sn
     let cuts = read_cuts(reader, r, cut_count)?;
     let shards = reader.next_u8_in(r, 1, MAX_SHARDS as u8, SnapFault::BadHead)?;
     let limit = reader.next_u64_in(r, 1, u64::MAX, SnapFault::BadHead)?;
-    let max_batches = reader.next_u64_in(r, 1, MAX_BATCHES, SnapFault::BadHead)?;
+    let max_batches = reader.next_u64_in(r, 1, most, SnapFault::BadHead)?;
     Ok(setup_of(
         rows,
         cols,
@@ -120,7 +134,8 @@ pub fn read_head<R: Source>(reader: &mut ByteReader, r: &mut R) -> Result<Head, 
 {
     let _mark = reader.next_u64_in(r, MARK, MARK, SnapFault::BadMark)?;
     let version = reader.next_u32_in(r, OLD_VERSION, VERSION, SnapFault::BadVersion)?;
-    let setup = read_setup(reader, r)?;
+    let most = most_batches(version);
+    let setup = read_setup(reader, r, most)?;
     let batches = reader.next_u64_in(r, 0, setup.max_batches(), SnapFault::BadHead)?;
     let total = reader.next_u64_in(r, 0, setup.limit(), SnapFault::BadHead)?;
     Ok(Head {

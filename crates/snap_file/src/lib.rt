@@ -39,6 +39,7 @@ pub use laws::{
     one_snapshot_spelled, refused_memory_hides_no_early_fault, shown_fault_stays,
     snapshot_or_faulty,
 };
+pub use limits::OLD_MAX_BATCHES;
 pub use origin::{Identity, NO_WINDOW, Origin};
 pub use path_lock::{PathLock, lock, lock_existing};
 pub use read::read_snapshot;

@@ -12,6 +12,9 @@ pub const CHECKED_VERSION: u32 = 3;
 /// The version of the files that are written, and the first that says whose a file is.
 pub const VERSION: u32 = 4;
 
+/// Batches: the most that a setup may allow in a file of an older version.
+pub const OLD_MAX_BATCHES: u64 = 1_000_000;
+
 /// Cells: so many of a matrix are read at a time, 96 KiB of them, which stay in the processor's own memory until they
 /// stand in the matrix.
 pub const RUN_CELLS: u64 = 4_096;

@@ -2,3 +2,4 @@ pub mod CheckLemmas
 pub mod FoldLemmas
 pub mod KeptLemmas
 mod LoggedLemmas
+mod MadeLemmas

@@ -1,6 +1,6 @@
 -- What is told of a snapshot and a log.
 use Rattle.std.proofs.Common.{◌≡◌, ◌≢◌, ℕ, ◌+◌, ◌<◌, ◌≤◌, ◌^◌, List, [], ◌∷◌, ◌++◌, length, Option, Some, None}
-use Rattle.std.proofs.Common.{Result, Ok, Err, IfErr, IsErrAnd, inl, inr, refl, sym, ap, subst, ◌∙◌, append_assoc, arith}
+use Rattle.std.proofs.Common.{Result, Ok, Err, IfErr, OnOk, IsErrAnd, inl, inr, refl, sym, ap, subst, ◌∙◌, append_assoc, arith}
 use Rattle.std.proofs.Common.{get_or, take, true}
 use Rattle.std.proofs.lemmas.List.{length-map, take_more}
 use Rattle.std.specs.Arc.{arc_value}
@@ -20,7 +20,7 @@ use Rattle.batch_store.proofs.BookLaws.{accepted_none}
 use Rattle.batch_store.specs.Batches.{Submission, values}
 use Rattle.batch_store.specs.Accepted.{IsBase, unfolded}
 use Rattle.batch_store.specs.Books.{Listing, HaveDims, listed_in}
-use Rattle.snap_file.specs.Origins.{origin}
+use Rattle.snap_file.specs.Origins.{IsOtherBook, origin}
 use Rattle.snap_file.specs.Snapshots.{HasBase, IsSaved, Saved, saved}
 use Rattle.snap_file.specs.declared.origin.Origin.{Origin}
 use Rattle.hyper_matrix.specs.Shared.{LiesWithin}
@@ -28,6 +28,7 @@ use Rattle.snap_file.specs.declared.fault.SnapFault.TheVariants as snap
 use Rattle.snap_file.specs.declared.fault.FileFault.{FileFault}
 use Rattle.snap_file.specs.declared.fault.FileFault.TheVariants as file
 use Rattle.log_blocks.specs.declared.fault.LogFault.{LogFault}
+use Rattle.byte_io.specs.declared.fault.WriteFault.{WriteFault}
 use Rattle.log_blocks.specs.declared.fault.LogKind.{LogKind}
 use Rattle.log_blocks.specs.declared.fault.LogKind.TheVariants as kind
 use Rattle.log_read.specs.Logs.{batches_in, pages_in}
@@ -64,11 +65,29 @@ module _ {L : Type 0} (reads : L → ℕ → Result LogFile LogFileFault → L �
   log_unread_of (log.Log fault) h = of_kind fault fault.kind refl h
   log_unread_of fault h = (tt, h)
 
+kind_no_output : (k : LogKind) (fault : LogFault) (w : WriteFault) → fault_of_kind k fault ≡ check.Output w → ⊥
+kind_no_output kind.Memory fault w is = cc is
+kind_no_output k fault w is = cc is
+
+-- a fault of the log's file is none of the output
+log_no_output : (fault : LogFileFault) (w : WriteFault) → fault_of_log fault ≡ check.Output w → ⊥
+log_no_output (log.Log fault) w is = kind_no_output fault.kind fault w is
+log_no_output fault w is = cc is
+
+pub no_output : {T : Type 0} (X : Type 0) (r : Result T CheckFault) (fault : LogFileFault) (w : WriteFault) →
+    IsErrAnd r (λ e. e ≡ fault_of_log fault) → r ≡ Err (check.Output w) → X
+no_output X (Ok x) fault w told is = absurd told
+no_output X (Err e) fault w told is = absurd (log_no_output fault w (let same : e ≡ check.Output w = cc is in sym told ∙ same))
+
 pub refused_of : (known : Saved) (logged : LogFile) (fault : JoinFault) → AreRefused known logged fault →
     IsJoinTold known logged (fault_of_join fault)
 refused_of known logged join.Memory h = tt
 refused_of known logged join.SetupDiffers h = h
 refused_of known logged fault h = (tt, h)
+
+pub on_ok_both : {T E : Type 0} {P Q R : Type 0} (r : Result T E) → (P → Q → R) → OnOk r P → OnOk r Q → OnOk r R
+on_ok_both (Ok x) f p q = f p q
+on_ok_both (Err e) f p q = tt
 
 -- what is so of a fault that was passed on
 pub passed_on : {T E : Type 0} (r : Result T E) (P : E → Type 0) (fault : E) → IsErrAnd r (λ e. e ≡ fault) →
@@ -144,17 +163,17 @@ joined_based s v h bs list based joins = record {
 
 module _ (o : Origin) (s : Setting) (v : Listing) (x : Saved) (is : saved o s v ≡ x) (logged : LogFile) (bs : List Submission)
     (all : bs ≡ batches_in logged.blocks.items) where
-  pub joined_lines : (list : Listing) (line : List ℕ) → Joins s v logged.head bs list →
-      line ≡ both_lines s list logged → (l : Listing) × AreJoined x logged l × (line ≡ both_lines x.setup l logged)
-  joined_lines list line joins lines =
+  pub joined_lines : (list : Listing) (line : List ℕ) → (IsOtherBook o.identity logged.head.identity → ⊥) →
+      Joins s v logged.head bs list → line ≡ both_lines s list logged → (l : Listing) × AreJoined x logged l × (line ≡ both_lines x.setup l logged)
+  joined_lines list line book joins lines =
       subst (λ (y : Saved). (l : Listing) × AreJoined y logged l × (line ≡ both_lines y.setup l logged)) is
-      (list, subst (λ (l : List Submission). Joins s v logged.head l list) all joins, lines)
+      (list, (book, subst (λ (l : List Submission). Joins s v logged.head l list) all joins), lines)
 
-  pub joined_refused : (fault : JoinFault) → RefusesJoin s v logged.head bs fault →
+  pub joined_refused : (fault : JoinFault) → RefusesJoin s o.identity v logged.head bs fault →
       IsJoinTold x logged (fault_of_join fault)
   joined_refused fault h =
       subst (λ (y : Saved). IsJoinTold y logged (fault_of_join fault)) is
-      (refused_of (saved o s v) logged fault (subst (λ (l : List Submission). RefusesJoin s v logged.head l fault) all h))
+      (refused_of (saved o s v) logged fault (subst (λ (l : List Submission). RefusesJoin s o.identity v logged.head l fault) all h))
 
 -- five parts behind a text
 pub parts_behind : (text a b c d e : List ℕ) →

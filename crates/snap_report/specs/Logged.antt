@@ -23,7 +23,7 @@ use Rattle.std.specs.Prelude.{Option, Some, None, Result, Ok, Err, true}
 use Rattle.batch_store.specs.Setups.{Setting}
 use Rattle.batch_store.specs.Accepted.{unfolded}
 use Rattle.batch_store.specs.Books.{Listing, accepted_in, listed_in}
-use Rattle.snap_file.specs.Origins.{origin}
+use Rattle.snap_file.specs.Origins.{IsOtherBook, origin}
 use Rattle.snap_file.specs.Snapshots.{Saved, saved}
 use Rattle.snap_file.specs.declared.fault.FileFault.{FileFault}
 use Rattle.snap_file.specs.declared.fault.FileFault.TheVariants as file
@@ -82,19 +82,21 @@ pub record Checked : Type 0 where
   pub log : LogFile
   pub list : Listing
 
--- the list of this snapshot and this log
+-- the list of this snapshot and this log, which are of no two books
 abbrev pub AreJoined : Saved → LogFile → Listing → Type 0
-AreJoined known file list = Joins known.setup known.list file.head (batches_in file.blocks.items) list
+AreJoined known file list =
+    (IsOtherBook known.origin.identity file.head.identity → ⊥)
+    × Joins known.setup known.list file.head (batches_in file.blocks.items) list
 
 -- the snapshot and the log don't belong together, for this reason
 abbrev pub AreRefused : Saved → LogFile → JoinFault → Type 0
-AreRefused known file fault = RefusesJoin known.setup known.list file.head (batches_in file.blocks.items) fault
+AreRefused known file fault = RefusesJoin known.setup known.origin.identity known.list file.head (batches_in file.blocks.items) fault
 
 abbrev pub HasJoined : {F L : Type 0} → (F → ℕ → Result Saved FileFault → F → Type 0) →
     (L → ℕ → Result LogFile LogFileFault → L → Type 0) → F → F → L → L → Checked → Type 0
 HasJoined loads reads s t u v x = HasRead loads reads s t u v x.known x.log × AreJoined x.known x.log x.list
 
--- want of memory is told as such, and another setup as such
+-- want of memory is told as such, and more rows or columns as such
 abbrev pub IsLogKind : LogKind → Type 0
 IsLogKind kind.Memory = ⊥
 IsLogKind _ = Unit {0}

@@ -9,10 +9,9 @@ ghost use Rattle.batch_store.specs.Batches.{values};
 ghost use Rattle.batch_store.specs.Books.{Listing, listed_in};
 ghost use Rattle.log_batches.specs.Payloads.{block_of};
 ghost use Rattle.log_read.specs.Logs.{batches_in, pages_in};
-ghost use Rattle.log_join.specs.Joins.{Joins};
 ghost use Rattle.snap_report.specs.Checks.{LeavesOutput};
 ghost use Rattle.snap_report.specs.Kept.{most_bytes};
-ghost use Rattle.snap_report.specs.Logged.{Checked, HasFound, HasJoined, IsJoinTold, IsKnown, IsLogTold, IsRead};
+ghost use Rattle.snap_report.specs.Logged.{AreJoined, Checked, HasFound, HasJoined, IsJoinTold, IsKnown, IsLogTold, IsRead};
 ghost use Rattle.snap_report.specs.Logged.{IsUnread, both_lines, log_line};
 
 use crate::check::{LINE_CAPACITY, line_of_list, push_number, write_line};
@@ -45,7 +44,10 @@ fn empty_list(alloc: Global, setup: &Setup) -> Result<BookList, AllocError>
 }
 
 // The snapshot in a file, None where there is no file.
-fn load_if_any<F: SnapshotFile>(alloc: Global, file: &mut F) -> Result<Option<Snapshot>, CheckFault>
+pub(crate) fn load_if_any<F: SnapshotFile>(
+    alloc: Global,
+    file: &mut F,
+) -> Result<Option<Snapshot>, CheckFault>
     ensures ok { IfOk result (λ found. HasFound F.load_gives file.old file.new found) }
     ensures err { IfErr result (λ fault. IsUnread F.load_gives file.old file.new fault) }
 {
@@ -57,7 +59,7 @@ fn load_if_any<F: SnapshotFile>(alloc: Global, file: &mut F) -> Result<Option<Sn
 }
 
 // What is known beside a log: the snapshot, or where there is none an empty one of the log's setup.
-fn known_beside(
+pub(crate) fn known_beside(
     alloc: Global,
     found: Option<Snapshot>,
     head: &LogHead,
@@ -124,13 +126,24 @@ fn lines_of(
 ) -> Result<ArrayString<LINE_CAPACITY>, CheckFault>
     requires { IsRead most_bytes logged.now }
     ensures ok { IfOk result (λ line. (list : Listing)
-        × Joins known.setup known.list logged.now.head (batches_in logged.now.blocks.items) list
+        × AreJoined known logged.now list
         × (line.bytes ≡ both_lines known.setup list logged.now)) }
     ensures err { IfErr result (λ fault. IsJoinTold known logged.now fault) }
 {
-    let Snapshot { setup, list, .. } = known;
+    let Snapshot {
+        origin,
+        setup,
+        list,
+    } = known;
     let batches = all_batches(alloc, &logged.blocks)?;
-    let both = join_log(alloc, &setup, list, &logged.head, &batches)?;
+    let both = join_log(
+        alloc,
+        &setup,
+        &origin.identity,
+        list,
+        &logged.head,
+        &batches,
+    )?;
     let mut line = line_of_list(alloc, &setup, &both)?;
     push_log(&mut line, logged, batches.len() as u64);
     Ok(line)

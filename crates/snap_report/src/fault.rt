@@ -23,10 +23,10 @@ pub enum CheckFault {
     /// The log's file could not be opened or read, or is no log. The fault is never want of memory.
     #[error("log: {0}")]
     Log(LogFileFault),
-    /// The log is of another setup than the snapshot.
+    /// The log's setup has more rows or columns than the snapshot's.
     #[error("settings: LogDiffers")]
     LogDiffers,
-    /// The snapshot and the log don't belong together. The fault is neither another setup nor want of memory.
+    /// The snapshot and the log don't belong together. The fault is neither `SetupDiffers` nor want of memory.
     #[error("log: {0}")]
     Join(JoinFault),
 }

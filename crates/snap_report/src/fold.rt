@@ -12,10 +12,10 @@ ghost use Rattle.snap_file.specs.Snapshots.{HasBase, Saved};
 ghost use Rattle.snap_report.specs.Folds.{fold_line, LeavesLine};
 ghost use Rattle.snap_report.specs.Kept.{folded_in, HasFolded, IsFoldTold};
 
-use crate::check::{LINE_CAPACITY, push_number, sum_of};
+use crate::check::sum_of;
 use crate::fault::FoldFault;
 use crate::limits::SNAPSHOT_BYTES;
-use arrayvec::ArrayString;
+use crate::making::line_of;
 use batch_store::{Batch, BookList, Entry, Setup};
 use byte_io::{Sink, write_all};
 use cells::Cell;
@@ -60,7 +60,7 @@ fn all_entries(list: BookList) -> Result<Vec<Entry>, AllocError>
 }
 
 // A list with all its batches folded.
-fn folded(alloc: Global, setup: &Setup, list: BookList) -> Result<BookList, AllocError>
+pub(crate) fn folded(alloc: Global, setup: &Setup, list: BookList) -> Result<BookList, AllocError>
     requires accepted { AreAccepted setup.now (accepted_in list) }
     requires based { HasBase setup.now list }
     ensures state { IfOk result (λ l. accepted_in l ≡ folded_in list) }
@@ -77,17 +77,6 @@ fn folded(alloc: Global, setup: &Setup, list: BookList) -> Result<BookList, Allo
         folded,
         batches: Vec::new(alloc),
     })
-}
-
-// The line of so many folded batches with this total.
-fn line_of(batches: u64, total: u64) -> ArrayString<LINE_CAPACITY>
-    ensures { result.bytes ≡ fold_line batches total }
-{
-    let mut line = ArrayString::new();
-    push_number(&mut line, "folded ", batches);
-    push_number(&mut line, " total ", total);
-    line.push_str("\n");
-    line
 }
 
 // Folds the snapshot in a file, and answers how many batches are folded then, and their total.
@@ -113,7 +102,7 @@ fn write_line<W: Sink>(w: &mut W, batches: u64, total: u64) -> Result<(), FoldFa
         HasStopped W.write_takes W.failure_count w.old w.new (fold_line batches total) fault.written }
     ensures line { IfErr result LeavesLine }
 {
-    let line = line_of(batches, total);
+    let line = line_of("folded ", batches, total);
     match write_all(w, line.as_str().as_bytes()) {
         Ok(()) => Ok(()),
         Err(fault) => Err(FoldFault::Output(fault)),

@@ -1,15 +1,18 @@
 -- The faults of a server that has its engine say nothing of a load; and why a path isn't locked.
 use Rattle.std.proofs.Common.{◌≡◌, ◌≢◌, ◌⊎◌, inl, inr, sym, subst, refl}
-use Rattle.std.specs.Prelude.{ℕ, Bool, true, false, List, Option, Result, Ok, Err, IfErr, String}
+use Rattle.std.specs.Prelude.{ℕ, Bool, true, false, List, Option, Some, None, Result, Ok, Err, IfErr, String}
 use Rattle.batch_store.specs.Setups.{Setting}
 use Rattle.snap_file.specs.Snapshots.{Saved}
 use Rattle.snap_file.specs.declared.fault.SnapFault.{SnapFault}
 use Rattle.snap_file.specs.declared.fault.FileFault.{FileFault}
 use Rattle.snap_file.specs.declared.fault.FileFault.TheVariants as file
-use Rattle.socket_server.specs.Faults.{IsMet, IsMetServing, MayEnd, IsLockFault, TellsNoLog, TellsNoFile}
+use Rattle.socket_server.specs.Faults.{IsLoadFault, IsMet, IsMetServing, MayEnd, IsLockFault, TellsNoLog, TellsNoFile}
 use Rattle.batch_store.specs.Books.{Listing}
 use Rattle.log_start.specs.declared.fault.StartFault.{StartFault}
-use Rattle.socket_server.specs.Starts.{IsLoadTold, IsLockTold, IsLogTold}
+use Rattle.log_start.specs.declared.owner.LogOwner.{LogOwner}
+use Rattle.snap_file.specs.declared.origin.Identity.{Identity}
+use Rattle.snap_file.specs.declared.fault.SnapFault.TheVariants as snap
+use Rattle.socket_server.specs.Starts.{IsLoadTold, IsLockTold, IsLogTold, needs_file}
 use Rattle.socket_server.specs.Ends.{IsShort, stopped}
 use Rattle.socket_server.specs.declared.fault.ServerFault.{ServerFault}
 use Rattle.socket_server.specs.declared.stopped.Stopped.{Stopped}
@@ -18,6 +21,7 @@ use Rattle.socket_server.specs.declared.fault.ServerFault.TheVariants.{BadCompac
 use Rattle.socket_server.specs.declared.fault.ServerFault.TheVariants.{SnapshotDiffers, File, Log, Listen, NoWorker}
 use Rattle.socket_server.specs.declared.fault.ServerFault.TheVariants.{RecordsDiffer, Save, LastLog, Output}
 use Rattle.socket_server.specs.declared.fault.ServerFault.TheVariants.{BadSnapshotPath, BadLogPath, NotDurable}
+use Rattle.socket_server.specs.declared.fault.ServerFault.TheVariants.{NeedsLog, NoLog, NoRandom}
 
 pub serving_met : (must_load : Bool) (f : ServerFault) → IsMetServing f → IsMet must_load f
 serving_met must_load Memory m = m
@@ -28,6 +32,9 @@ serving_met must_load BadCompactors m = absurd m
 serving_met must_load BadSnapshotPath m = absurd m
 serving_met must_load BadLogPath m = absurd m
 serving_met must_load SnapshotDiffers m = absurd m
+serving_met must_load (NeedsLog snapshot) m = absurd m
+serving_met must_load (NoLog log snapshot) m = absurd m
+serving_met must_load NoRandom m = absurd m
 serving_met must_load (File fault) m = absurd m
 serving_met must_load (Log fault) m = absurd m
 serving_met must_load (Listen address) m = m
@@ -49,6 +56,9 @@ serving_told loads locks h path v BadCompactors m = absurd m
 serving_told loads locks h path v BadSnapshotPath m = absurd m
 serving_told loads locks h path v BadLogPath m = absurd m
 serving_told loads locks h path v SnapshotDiffers m = absurd m
+serving_told loads locks h path v (NeedsLog snapshot) m = absurd m
+serving_told loads locks h path v (NoLog log snapshot) m = absurd m
+serving_told loads locks h path v NoRandom m = absurd m
 serving_told loads locks h path v (File fault) m = absurd m
 serving_told loads locks h path v (Log fault) m = absurd m
 serving_told loads locks h path v (Listen address) m = tt
@@ -58,6 +68,43 @@ serving_told loads locks h path v (Save fault) m = tt
 serving_told loads locks h path v (LastLog fault) m = tt
 serving_told loads locks h path v (Output fault) m = tt
 serving_told loads locks h path v (NotDurable batches) m = absurd m
+
+-- ---- what is met where the snapshot needn't be there is met where it must
+
+file_met : (must_load : Bool) (f : FileFault) → IsLoadFault false f → IsLoadFault must_load f
+file_met must_load file.NotFound m = absurd cc
+file_met must_load file.OpenFailed m = tt
+file_met must_load file.Busy m = tt
+file_met must_load (file.Snap snap.Memory) m = m
+file_met must_load (file.Snap fault) m = tt
+file_met must_load file.Memory m = m
+
+any_met : (must_load : Bool) (f : ServerFault) → IsMet false f → IsMet must_load f
+any_met must_load Memory m = m
+any_met must_load BadWorkers m = m
+any_met must_load NoAddress m = m
+any_met must_load BadSnapshotPath m = m
+any_met must_load BadLogPath m = m
+any_met must_load SamePath m = m
+any_met must_load BadCompactors m = m
+any_met must_load SnapshotDiffers m = m
+any_met must_load (NeedsLog snapshot) m = m
+any_met must_load (NoLog log snapshot) m = m
+any_met must_load NoRandom m = m
+any_met must_load (File fault) m = file_met must_load fault m
+any_met must_load (Log fault) m = m
+any_met must_load (Listen address) m = m
+any_met must_load NoWorker m = m
+any_met must_load RecordsDiffer m = m
+any_met must_load (Save fault) m = m
+any_met must_load (LastLog fault) m = m
+any_met must_load (Output fault) m = m
+any_met must_load (NotDurable batches) m = m
+
+pub needs_met : {Z : Type 0} (must_load : Bool) (log : Option (String Z)) (f : ServerFault) →
+    IsMet (needs_file must_load log) f → IsMet must_load f
+needs_met must_load None f m = m
+needs_met must_load (Some log) f m = any_met must_load f m
 
 -- what a server may meet to its end is what it may meet before, or that batches aren't durable
 ending : (P Q : ServerFault → Type 0) (f : ServerFault) → ((batches : ℕ) → Q (NotDurable batches)) →
@@ -70,6 +117,9 @@ ending P Q BadLogPath n s m = s m
 ending P Q SamePath n s m = s m
 ending P Q BadCompactors n s m = s m
 ending P Q SnapshotDiffers n s m = s m
+ending P Q (NeedsLog snapshot) n s m = s m
+ending P Q (NoLog log snapshot) n s m = s m
+ending P Q NoRandom n s m = s m
 ending P Q (File fault) n s m = s m
 ending P Q (Log fault) n s m = s m
 ending P Q (Listen address) n s m = s m
@@ -89,6 +139,9 @@ met_ending must_load BadLogPath m = m
 met_ending must_load SamePath m = m
 met_ending must_load BadCompactors m = m
 met_ending must_load SnapshotDiffers m = m
+met_ending must_load (NeedsLog snapshot) m = m
+met_ending must_load (NoLog log snapshot) m = m
+met_ending must_load NoRandom m = m
 met_ending must_load (File fault) m = m
 met_ending must_load (Log fault) m = m
 met_ending must_load (Listen address) m = m
@@ -132,6 +185,9 @@ no_log_told locks h path BadCompactors n = tt
 no_log_told locks h path BadSnapshotPath n = tt
 no_log_told locks h path BadLogPath n = tt
 no_log_told locks h path SnapshotDiffers n = tt
+no_log_told locks h path (NeedsLog snapshot) n = tt
+no_log_told locks h path (NoLog log snapshot) n = absurd n
+no_log_told locks h path NoRandom n = tt
 no_log_told locks h path (File fault) n = tt
 no_log_told locks h path (Log fault) n = absurd n
 no_log_told locks h path (Listen address) n = tt
@@ -154,6 +210,9 @@ no_file_told loads locks h path v BadCompactors n = tt
 no_file_told loads locks h path v BadSnapshotPath n = tt
 no_file_told loads locks h path v BadLogPath n = tt
 no_file_told loads locks h path v SnapshotDiffers n = absurd n
+no_file_told loads locks h path v (NeedsLog snapshot) n = absurd n
+no_file_told loads locks h path v (NoLog log snapshot) n = tt
+no_file_told loads locks h path v NoRandom n = tt
 no_file_told loads locks h path v (File fault) n = absurd n
 no_file_told loads locks h path v (Log fault) n = tt
 no_file_told loads locks h path v (Listen address) n = tt
@@ -173,6 +232,9 @@ serving_no_log BadCompactors m = tt
 serving_no_log BadSnapshotPath m = tt
 serving_no_log BadLogPath m = tt
 serving_no_log SnapshotDiffers m = tt
+serving_no_log (NeedsLog snapshot) m = absurd m
+serving_no_log (NoLog log snapshot) m = absurd m
+serving_no_log NoRandom m = absurd m
 serving_no_log (File fault) m = tt
 serving_no_log (Log fault) m = absurd m
 serving_no_log (Listen address) m = tt
@@ -186,14 +248,16 @@ serving_no_log (NotDurable batches) m = absurd m
 -- a fault of the log's lock is told as one of the log
 pub lock_log_told : {H Y Z : Type 0} (loads : H → List ℕ → ℕ → Result Saved FileFault → Type 0)
     (locks : H → List ℕ → Result Bool FileFault → Type 0)
-    (starts : H → List ℕ → Setting → Listing → Result Listing StartFault → Type 0) (h : H) (path : Option (String Y))
+    (starts : H → List ℕ → Setting → LogOwner → Listing → Result (Listing × Identity) StartFault → Type 0) (h : H)
+    (path : Option (String Y))
     (log : Option (String Z)) (must_load : Bool) (v : Setting) (f : ServerFault) → IsLockTold locks h log f →
     IsLogTold loads locks starts h path log must_load v f
 lock_log_told loads locks starts h path log must_load v f told = inl told
 
 pub serving_log_told : {H Y Z : Type 0} (loads : H → List ℕ → ℕ → Result Saved FileFault → Type 0)
     (locks : H → List ℕ → Result Bool FileFault → Type 0)
-    (starts : H → List ℕ → Setting → Listing → Result Listing StartFault → Type 0) (h : H) (path : Option (String Y))
+    (starts : H → List ℕ → Setting → LogOwner → Listing → Result (Listing × Identity) StartFault → Type 0) (h : H)
+    (path : Option (String Y))
     (log : Option (String Z)) (must_load : Bool) (v : Setting) (f : ServerFault) → IsMetServing f →
     IsLogTold loads locks starts h path log must_load v f
 serving_log_told loads locks starts h path log must_load v f met =
@@ -201,7 +265,8 @@ serving_log_told loads locks starts h path log must_load v f met =
 
 pub ending_log_told : {H Y Z : Type 0} (loads : H → List ℕ → ℕ → Result Saved FileFault → Type 0)
     (locks : H → List ℕ → Result Bool FileFault → Type 0)
-    (starts : H → List ℕ → Setting → Listing → Result Listing StartFault → Type 0) (h : H) (path : Option (String Y))
+    (starts : H → List ℕ → Setting → LogOwner → Listing → Result (Listing × Identity) StartFault → Type 0) (h : H)
+    (path : Option (String Y))
     (log : Option (String Z)) (must_load : Bool) (v : Setting) (f : ServerFault) → MayEnd IsMetServing f →
     IsLogTold loads locks starts h path log must_load v f
 ending_log_told loads locks starts h path log must_load v f m =
@@ -218,6 +283,9 @@ met_short must_load ends BadLogPath m = tt
 met_short must_load ends SamePath m = tt
 met_short must_load ends BadCompactors m = tt
 met_short must_load ends SnapshotDiffers m = tt
+met_short must_load ends (NeedsLog snapshot) m = tt
+met_short must_load ends (NoLog log snapshot) m = tt
+met_short must_load ends NoRandom m = tt
 met_short must_load ends (File fault) m = tt
 met_short must_load ends (Log fault) m = tt
 met_short must_load ends (Listen address) m = tt
@@ -240,6 +308,9 @@ one_short P Q BadLogPath w h = tt
 one_short P Q SamePath w h = tt
 one_short P Q BadCompactors w h = tt
 one_short P Q SnapshotDiffers w h = tt
+one_short P Q (NeedsLog snapshot) w h = tt
+one_short P Q (NoLog log snapshot) w h = tt
+one_short P Q NoRandom w h = tt
 one_short P Q (File fault) w h = tt
 one_short P Q (Log fault) w h = tt
 one_short P Q (Listen address) w h = tt

@@ -1,4 +1,5 @@
 mod SeatLaws
 mod FaultLaws
 mod StartLaws
+mod RenewLaws
 mod EndLaws

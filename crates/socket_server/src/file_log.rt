@@ -7,11 +7,13 @@ ghost use Rattle.stored_log.specs.Kept.{WasSynced, is_failed};
 ghost use Rattle.socket_server.specs.Ends.{GoesOn};
 
 use crate::log_host::LogHost;
+use crate::start::same_setup;
 use batch_store::{BookList, Setup};
 use log_file::LogMark;
 use log_folder::{FileLogFolder, FolderFault, LogFolder, LogNews, Refusal, StartedLog};
-use log_start::{StartFault, Started};
+use log_start::{LogOwner, StartFault, Started};
 use session_pool::FileLog;
+use snap_file::Identity;
 use std::alloc::Global;
 use std::fs::File;
 use std::rt::Files;
@@ -71,9 +73,10 @@ fn start_untold<F: LogFolder>(
     folder: &mut F,
     alloc: Global,
     setup: &Setup,
+    owner: &LogOwner,
     known: BookList,
     mark: &mut Option<LogMark>,
-) -> Result<(StoredLog<F::Disk>, BookList), StartFault>
+) -> Result<(StoredLog<F::Disk>, BookList, Identity), StartFault>
     requires untold { F.tells folder.old → ⊥ }
     requires untelling { F.Disk.telling → ⊥ }
     requires failures { F.failure_count folder.old + 1 < 2 ^ 64 }
@@ -82,24 +85,34 @@ fn start_untold<F: LogFolder>(
     ensures accepted { IfOk result (λ r. AreAccepted setup.now (accepted_in r.1)) }
     ensures based { IfOk result (λ r. HasBase setup.now r.1) }
     ensures later { IfOk result (λ r. GoesOn (accepted_in known) (accepted_in r.1)) }
+    ensures folded { IfOk result (λ r. r.1.folded ≡ known.folded) }
     ensures works { IfOk result (λ r. is_failed F.Disk.in_doubt r.0.in_use ≡ false) }
     ensures entries { IfOk result (λ r. r.0.entries ≡ entries_in (accepted_in r.1)) }
     ensures synced { IfOk result (λ r. WasSynced F.Disk.telling F.Disk.tells F.Disk.written F.Disk.may_leave
         (entries_in (accepted_in r.1))) }
 {
-    let Started { log, list } = match log_start::start_log(folder, alloc, setup, known) {
+    let Started {
+        log,
+        list,
+        identity,
+        setup: of_log,
+    } = match log_start::start_log(folder, alloc, setup, owner, known) {
         Ok(started) => started,
         Err(fault) => return Err(fault),
     };
+    // No block is appended to a log of another setup.
+    if !same_setup(&of_log, setup) {
+        return Err(StartFault::SetupDiffers);
+    }
     *mark = Some(log.writer.mark());
     match StoredLog::new(alloc, log, &list) {
-        Ok(log) => Ok((log, list)),
+        Ok(log) => Ok((log, list, identity)),
         Err(_) => Err(StartFault::Memory),
     }
 }
 
 impl<R: Files<File = File> + Clock> LogHost<FileLog> for R {
-    ghost log_starts = { λ h path setup known answer. ⊤ };
+    ghost log_starts = { λ h path setup owner known answer. ⊤ };
 
     fn start_log(
         &self,
@@ -107,19 +120,20 @@ impl<R: Files<File = File> + Clock> LogHost<FileLog> for R {
         path: &str,
         snapshot: Option<&str>,
         setup: &Setup,
+        owner: &LogOwner,
         known: BookList,
         news: &Arc<LogNews>,
-    ) -> Result<(FileLog, BookList), StartFault> {
+    ) -> Result<(FileLog, BookList, Identity), StartFault> {
         let mut folder = match FileLogFolder::open(self, alloc, path, snapshot) {
             Ok(folder) => folder.telling(Some(news)),
             Err(fault) => return Err(folder_fault(fault)),
         };
         await_file(self, &folder);
         let mut mark = None;
-        match start_untold(&mut folder, alloc, setup, known, &mut mark) {
-            Ok((stored, list)) => {
+        match start_untold(&mut folder, alloc, setup, owner, known, &mut mark) {
+            Ok((stored, list, identity)) => {
                 note_start(news, mark, folder.has_made());
-                Ok((FileLog::new(stored), list))
+                Ok((FileLog::new(stored), list, identity))
             }
             Err(fault) => Err(start_fault(folder.refusal(), fault)),
         }

@@ -4,6 +4,8 @@ ghost use Rattle.batch_store.specs.Accepted.{entries_in};
 ghost use Rattle.batch_store.specs.Books.{Listing, AreAccepted, accepted_in};
 ghost use Rattle.batch_store.specs.Setups.{Setting};
 ghost use Rattle.log_start.specs.declared.fault.StartFault.{StartFault};
+ghost use Rattle.log_start.specs.declared.owner.LogOwner.{LogOwner};
+ghost use Rattle.snap_file.specs.declared.origin.Identity.{Identity};
 ghost use Rattle.snap_file.specs.Snapshots.{HasBase};
 ghost use Rattle.socket_server.specs.Ends.{GoesOn};
 ghost use Rattle.socket_server.specs.Starts.{started_list};
@@ -11,21 +13,24 @@ ghost use Rattle.socket_server.specs.Starts.{started_list};
 use batch_store::{BookList, Setup};
 use log_desk::Log;
 use log_folder::LogNews;
-use log_start::StartFault;
+use log_start::{LogOwner, StartFault};
+use snap_file::Identity;
 use std::alloc::Global;
 use std::sync::Arc;
 
 /// A place where logs are found and begun. As with `Host`, a server knows this trait, and every runtime with files has
 /// it for logs in files.
 pub trait LogHost<L: Log> {
-    // What it has answered to a start of the log under this path, of this setup, over what is known: the list of both
-    // together, or why there is none. Of a real host's files no clause can speak, so there it is any.
-    ghost log_starts: { Self → List ℕ → Setting → Listing → Result Listing StartFault → Type 0 };
+    // What it has answered to a start of the log under this path, of this setup and this owner, over what is known: the
+    // list of both together and whose the log is, or why there is none. Of a real host's files no clause can speak, so
+    // there it is any.
+    ghost log_starts: { Self → List ℕ → Setting → LogOwner → Listing → Result (Listing × Identity) StartFault →
+        Type 0 };
 
     /// Starts the log under `path`, beside the snapshot under `snapshot`, if there is one: finds it and joins it with
     /// what is known, or begins it behind that. The list is what is known and the log's batches behind it, all of them
-    /// durable. The caller holds the lock of the log's path. It is noted in `news` which log that is, and as long as it
-    /// is in use why a call on it fails.
+    /// durable; the identity is the log's. The caller holds the lock of the log's path. It is noted in `news` which log
+    /// that is, and as long as it is in use why a call on it fails.
     ///
     /// # Errors
     ///
@@ -36,15 +41,17 @@ pub trait LogHost<L: Log> {
         path: &str,
         snapshot: Option<&str>,
         setup: &Setup,
+        owner: &LogOwner,
         known: BookList,
         news: &Arc<LogNews>,
-    ) -> Result<(L, BookList), StartFault>
+    ) -> Result<(L, BookList, Identity), StartFault>
         requires accepted { AreAccepted setup.now (accepted_in known) }
         requires based { HasBase setup.now known }
-        ensures answer { log_starts self.now path.now setup.now known (started_list result) }
+        ensures answer { log_starts self.now path.now setup.now owner.now known (started_list result) }
         ensures accepted { IfOk result (λ r. AreAccepted setup.now (accepted_in r.1)) }
         ensures based { IfOk result (λ r. HasBase setup.now r.1) }
         ensures later { IfOk result (λ r. GoesOn (accepted_in known) (accepted_in r.1)) }
+        ensures folded { IfOk result (λ r. r.1.folded ≡ known.folded) }
         ensures works { IfOk result (λ r. L.failed r.0 ≡ false) }
         ensures durable { IfOk result (λ r. L.durable r.0 ≡ entries_in (accepted_in r.1)) }
         ensures synced { IfOk result (λ r. L.was_synced (entries_in (accepted_in r.1))) };

@@ -141,7 +141,11 @@ impl<N: Named, H: Ledger, L: Log> Opened<N, H, L> {
         ensures has_log { IfOk result (λ o. is_some o.log ≡ is_some start.log) }
         ensures met { IfErr result IsMetServing }
     {
-        let Start { plain, log } = start;
+        let Start {
+            plain,
+            log,
+            identity: _,
+        } = start;
         let Ok((engine, seats)) = Engine::<N, H>::open(alloc, plain, names) else {
             return Err(ServerFault::Memory);
         };

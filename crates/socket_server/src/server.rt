@@ -3,6 +3,9 @@ ghost use Rattle.std.specs.Prelude.{◌≡◌, ◌+◌, ◌<◌, ◌≤◌, ◌^
 ghost use Rattle.std.specs.Prelude.{is_some, true};
 ghost use Rattle.batch_store.specs.Accepted.{Accepted};
 ghost use Rattle.locked_engine.specs.Opened.{NamesEngine};
+ghost use Rattle.session_pool.specs.Saves.{of_origin};
+ghost use Rattle.snap_file.specs.Origins.{origin};
+ghost use Rattle.snap_file.specs.declared.origin.Identity.{Identity};
 ghost use Rattle.socket_server.specs.Ends.{HasEnded, IsShort, stopped};
 ghost use Rattle.socket_server.specs.Faults.{IsMet, IsMetServing, MayEnd};
 ghost use Rattle.socket_server.specs.Starts.{IsReady, StartsFrom, IsLocked, IsLoadTold, IsLogTold, IsOnePath};
@@ -24,6 +27,7 @@ use log_desk::Log;
 use log_folder::LogNews;
 use server_counters::{Counters, Machine};
 use session_pool::{Disk, LastFailure, LogPlace, Saver};
+use snap_file::{Identity, Origin};
 use std::alloc::Global;
 use std::marker::Brand;
 use std::net::{Net, TcpListener, TcpStream};
@@ -55,7 +59,8 @@ fn serve_open<
 ) -> Result<Stopped, ServerFault>
     requires seats { length opened.seats.items ≡ N.seats }
     ensures ended { IfOk result
-        (HasEnded R.saves rt.now L.was_synced saver.now.path N.setup (is_some opened.log) N.opened) }
+        (HasEnded (of_origin R.saves saver.now.origin) rt.now L.was_synced saver.now.path N.setup
+        (is_some opened.log) N.opened) }
     ensures met { IfErr result IsMetServing }
 {
     if let Err(fault) = serve_listeners(
@@ -115,7 +120,8 @@ fn serve_bound<
 ) -> Result<Stopped, ServerFault>
     requires seats { length opened.seats.items ≡ N.seats }
     ensures ended { IfOk result
-        (HasEnded R.saves rt.now L.was_synced saver.now.path N.setup (is_some opened.log) N.opened) }
+        (HasEnded (of_origin R.saves saver.now.origin) rt.now L.was_synced saver.now.path N.setup
+        (is_some opened.log) N.opened) }
     ensures met { IfErr result IsMetServing }
 {
     let outcome = serve_open(rt, alloc, opened, &listeners, saver);
@@ -154,7 +160,8 @@ fn serve_named<
     requires ready { IsReady L.failed L.durable L.was_synced start.log N.opened }
     ensures failures { OnOk result (W.failure_count out.new ≡ W.failure_count out.old) }
     ensures ended { IfOk result
-        (HasEnded R.saves rt.now L.was_synced plan.saver.path names.setup (is_some start.log) N.opened) }
+        (HasEnded (of_origin R.saves plan.saver.origin) rt.now L.was_synced plan.saver.path names.setup
+        (is_some start.log) N.opened) }
     ensures met { IfErr result IsMetServing }
 {
     let opened = match Opened::<N, H, L>::open(rt, alloc, start, names) {
@@ -197,9 +204,11 @@ fn serve_plan<
     requires failures { W.failure_count out.old + 1 < 2 ^ 64 }
     requires workers { (1 ≤ workers) × (workers ≤ 32) }
     requires ready { IsReady L.failed L.durable L.was_synced start.log start.plain.book.state }
-    ensures ended { IfOk result (λ s. HasEnded R.saves rt.now L.was_synced plan.saver.path start.plain.setup
+    ensures ended { IfOk result (λ s. HasEnded (of_origin R.saves plan.saver.origin) rt.now
+        L.was_synced plan.saver.path start.plain.setup
         (is_some start.log) start.plain.book.state (stopped s 0)) }
-    ensures short { IfErr result (IsShort (HasEnded R.saves rt.now L.was_synced plan.saver.path start.plain.setup
+    ensures short { IfErr result (IsShort (HasEnded (of_origin R.saves plan.saver.origin) rt.now
+        L.was_synced plan.saver.path start.plain.setup
         (is_some start.log) start.plain.book.state)) }
     ensures met { IfErr result (MayEnd IsMetServing) }
 {
@@ -272,9 +281,11 @@ fn failure_of_saves(alloc: Global, news: &Arc<LogNews>) -> Result<SaveFailure, S
 }
 
 // Where a server listens, and where it saves, as its settings say.
-fn plan_of(settings: Settings, failure: SaveFailure, counters: Counters) -> Plan
+fn plan_of(settings: Settings, identity: Identity, failure: SaveFailure, counters: Counters) -> Plan
     ensures path { result.saver.path ≡ settings.snapshot }
+    ensures origin { result.saver.origin ≡ origin identity (is_some settings.log) }
 {
+    let has_log = settings.log.is_some();
     let SaveFailure { told, read } = failure;
     let Settings {
         tcp,
@@ -307,6 +318,7 @@ fn plan_of(settings: Settings, failure: SaveFailure, counters: Counters) -> Plan
         },
         saver: Saver::telling(snapshot, told)
             .with_log(log)
+            .saving_as(Origin { identity, has_log })
             .folding_above(fold_above),
     }
 }
@@ -332,12 +344,14 @@ fn serve_settings<
     requires workers { (1 ≤ settings.workers) × (settings.workers ≤ 32) }
     ensures locked { IfOk result (λ _. IsLocked R.locks rt.now settings.snapshot settings.must_save) }
     ensures log_locked { IfOk result (λ _. IsLocked R.locks rt.now settings.log true) }
-    ensures ended { IfOk result (λ s. (a : Accepted)
-        × StartsFrom R.loads R.log_starts rt.now settings.snapshot settings.log settings.must_load settings.setup a
-        × HasEnded R.saves rt.now L.was_synced settings.snapshot settings.setup (is_some settings.log) a (stopped s 0)) }
-    ensures short { IfErr result (IsShort (λ s. (a : Accepted)
-        × StartsFrom R.loads R.log_starts rt.now settings.snapshot settings.log settings.must_load settings.setup a
-        × HasEnded R.saves rt.now L.was_synced settings.snapshot settings.setup (is_some settings.log) a s)) }
+    ensures ended { IfOk result (λ s. (a : Accepted) × (i : Identity)
+        × StartsFrom R.loads R.log_starts R.saves R.begins R.names rt.now settings.snapshot settings.log
+        settings.must_load settings.setup i a × HasEnded (of_origin R.saves (origin i (is_some settings.log))) rt.now
+        L.was_synced settings.snapshot settings.setup (is_some settings.log) a (stopped s 0)) }
+    ensures short { IfErr result (IsShort (λ s. (a : Accepted) × (i : Identity)
+        × StartsFrom R.loads R.log_starts R.saves R.begins R.names rt.now settings.snapshot settings.log
+        settings.must_load settings.setup i a × HasEnded (of_origin R.saves (origin i (is_some settings.log))) rt.now
+        L.was_synced settings.snapshot settings.setup (is_some settings.log) a s)) }
     ensures met { IfErr result (MayEnd (IsMet settings.must_load)) }
     ensures told { IfErr result (λ f. IsLoadTold R.loads R.locks rt.now settings.snapshot settings.setup f) }
     ensures log_told { IfErr result (λ f. IsLogTold R.loads R.locks R.log_starts rt.now settings.snapshot settings.log
@@ -351,7 +365,7 @@ fn serve_settings<
     let start = make_start::<L, R>(rt, alloc, &settings, &news)?;
     let workers = settings.workers;
     counters.note_start(start.plain.status().batches);
-    let plan = plan_of(settings, failure, counters);
+    let plan = plan_of(settings, start.identity, failure, counters);
     serve_plan(rt, alloc, start, workers, plan, out)
 }
 
@@ -364,6 +378,8 @@ fn serve_settings<
 /// is given what is durable in the log; where accepted batches are missing there, the answer is `NotDurable`.
 ///
 /// `L` is the type of logs: `FileLog`, but in tests.
+///
+/// Before it listens each of its files says the identity of the book: the snapshot's, else the log's, else a drawn one.
 ///
 /// The snapshot's path is locked, as `snap_file::lock` does it, from before the load until the answer. Where the lock
 /// can't be had, the server goes on without it, unless it must be seen that a snapshot can be saved. While another
@@ -424,12 +440,14 @@ pub fn run_server<
         settings.must_load settings.setup f) }
     ensures locked { IfOk result (λ _. IsLocked R.locks rt.now settings.snapshot settings.must_save) }
     ensures log_locked { IfOk result (λ _. IsLocked R.locks rt.now settings.log true) }
-    ensures ended { IfOk result (λ s. (a : Accepted)
-        × StartsFrom R.loads R.log_starts rt.now settings.snapshot settings.log settings.must_load settings.setup a
-        × HasEnded R.saves rt.now L.was_synced settings.snapshot settings.setup (is_some settings.log) a (stopped s 0)) }
-    ensures short { IfErr result (IsShort (λ s. (a : Accepted)
-        × StartsFrom R.loads R.log_starts rt.now settings.snapshot settings.log settings.must_load settings.setup a
-        × HasEnded R.saves rt.now L.was_synced settings.snapshot settings.setup (is_some settings.log) a s)) }
+    ensures ended { IfOk result (λ s. (a : Accepted) × (i : Identity)
+        × StartsFrom R.loads R.log_starts R.saves R.begins R.names rt.now settings.snapshot settings.log
+        settings.must_load settings.setup i a × HasEnded (of_origin R.saves (origin i (is_some settings.log))) rt.now
+        L.was_synced settings.snapshot settings.setup (is_some settings.log) a (stopped s 0)) }
+    ensures short { IfErr result (IsShort (λ s. (a : Accepted) × (i : Identity)
+        × StartsFrom R.loads R.log_starts R.saves R.begins R.names rt.now settings.snapshot settings.log
+        settings.must_load settings.setup i a × HasEnded (of_origin R.saves (origin i (is_some settings.log))) rt.now
+        L.was_synced settings.snapshot settings.setup (is_some settings.log) a s)) }
 {
     settings.judge()?;
     serve_settings::<L, R, W>(rt, alloc, settings, out)

@@ -50,9 +50,13 @@ pub fn full_by(failure: &LastFailure) -> Option<FailedCall> {
 /// Why the save that failed last did, if one has.
 pub fn last_unsaved<R: Wait>(rt: &R, failure: &LastFailure) -> Option<Unsaved> {
     let FailedSave { file, fault, error } = failure.last(rt)?;
+    let step = match (file, failure.news().failure()) {
+        (SavedFile::Log, Some(failed)) if failed.call == FileCall::OtherBook => failed.call.name(),
+        _ => step_of(fault),
+    };
     Some(Unsaved {
         file: name_of(file),
-        step: step_of(fault),
+        step,
         error,
     })
 }

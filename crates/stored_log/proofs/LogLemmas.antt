@@ -1,5 +1,5 @@
 -- A log that is settled is what its file is read as, and one block more.
-use Rattle.std.proofs.Common.{◌≡◌, ℕ, ◌+◌, ◌-◌, ◌*◌, ◌^◌, ◌<◌, ◌≤◌, List, [], ◌∷◌, ◌++◌, length, take, drop, map, flat_map, refl, sym, ap, subst, ◌∙◌, append_assoc, arith, inl, inr, Bool, true, false}
+use Rattle.std.proofs.Common.{◌≡◌, ℕ, ◌+◌, ◌-◌, ◌*◌, ◌^◌, ◌<◌, ◌≤◌, List, [], ◌∷◌, ◌++◌, length, take, drop, sym, ap, subst, ◌∙◌, append_assoc, arith, inl, inr, Bool, true, false}
 use Rattle.std.specs.Prelude.{Option, Some, IfSome, Result, Ok, Err, OnOk, OnErr, nat_le, if◌then◌else◌}
 use Rattle.std.specs.Arc.{arc_value}
 use Rattle.std.specs.declared.sync.Arc.{Arc}
@@ -14,16 +14,10 @@ use Rattle.log_blocks.specs.Files.{recovered, next_bytes, joined as joined_pages
 use Rattle.log_blocks.specs.declared.fault.LogFault.{LogFault}
 use Rattle.log_batches.specs.Payloads.{block_of}
 use Rattle.log_batches.proofs.Chunks.{is_block}
-use Rattle.log_file.specs.Logs.{Log, IsLog, IsReadAs, with_next}
+use Rattle.log_file.specs.Logs.{Log, IsReadAs, with_next}
 use Rattle.log_file.specs.Writer.{IsSettled}
 use Rattle.log_file.specs.declared.writer.LogWriter.{LogWriter}
 use Rattle.log_file.proofs.LogLemmas.{log_is_read}
-use Rattle.batch_store.specs.Verdicts.{total_of_entries}
-use Rattle.log_head.specs.Heads.{HasHead, IsHead, head_page}
-use Rattle.log_head.proofs.ReadAgain.{written_head}
-use Rattle.log_head.specs.Links.{link_in}
-use Rattle.log_head.specs.declared.head.LogHead.{LogHead}
-use Rattle.open_log.specs.Rotations.{begun}
 use Rattle.open_log.specs.declared.log.OpenLog.{OpenLog}
 use Rattle.log_start.specs.Records.{IsLogOf, joined}
 use Rattle.stored_log.specs.Kept.{IsLogged, Stored, blocks_read, is_failed, log_in, room_of, stored}
@@ -177,23 +171,6 @@ room_behind (Ok x) old new made pages left is few within = elim (cases_Bool (nat
       absurd (omega (arith, much, few))
 ]
 room_behind (Err e) old new made pages left is few within = tt
-
--- ---- a log that is begun
-
-pub begun_lists : (head : LogHead) (es : List Entry) → IsHead head → head.first ≡ length es →
-    head.total ≡ total_of_entries es → head.link ≡ link_in es → IsLogOf (begun (head_page head) head.first) es
-begun_lists head es is first total link = record {
-  head = head;
-  before = es;
-  lists = [];
-  has_head = written_head head is;
-  first_is = refl;
-  before_is = sym first;
-  total_is = sym total;
-  link_is = sym link;
-  blocks_are = refl;
-  entries_are = sym (append-nil es);
-}
 
 -- ---- a log that is seen
 

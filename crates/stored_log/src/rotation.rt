@@ -12,12 +12,13 @@ use crate::stored::StoredLog;
 use batch_store::{BookList, Setup};
 use log_folder::{LogFolder, RotateFault};
 use log_head::encode_head;
-use log_join::head_of;
 use log_page::PAGE;
+use log_start::head_of;
 use open_log::{abandon_rotation, begin_rotation, finish_rotation};
+use snap_file::Identity;
 use std::alloc::Global;
 
-/// Makes a new log beside the one in use, of no blocks, behind all that a list tells. The one in use isn't touched; of
+/// Makes a new log of this identity beside the one in use, of no blocks, after all that a list has. The one in use isn't touched; of
 /// its batches those behind the list's are to be appended to the new one.
 ///
 /// # Errors
@@ -28,6 +29,7 @@ pub fn begin_stored<F: LogFolder>(
     folder: &mut F,
     alloc: Global,
     setup: &Setup,
+    identity: Identity,
     list: &BookList,
 ) -> Result<StoredLog<F::Disk>, StoredFault>
     requires failures { F.failure_count folder.old + 1 < 2 ^ 64 }
@@ -44,7 +46,7 @@ pub fn begin_stored<F: LogFolder>(
     ensures why { IfErr result (HasNotBegun F.Disk.in_doubt (F.failure_count folder.old)
         (F.failure_count folder.new)) }
 {
-    let head = head_of(setup, list);
+    let head = head_of(setup, identity, list);
     let mut page = [0; PAGE];
     encode_head(&mut page, &head);
     let log = match begin_rotation(folder, &page, head.first) {

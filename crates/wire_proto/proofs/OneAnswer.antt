@@ -1,6 +1,6 @@
 -- Over the engine of one thread each message has one answer, and leaves one state.
 use Rattle.std.proofs.Common.{◌≡◌, ◌≢◌, ◌⊎◌, inl, inr, ℕ, ◌+◌, ◌<◌, ◌^◌, List, [], ◌∷◌, ◌++◌, refl, sym, ◌∙◌, ap, subst}
-use Rattle.std.proofs.Common.{arith, Some, Result, Ok, Err}
+use Rattle.std.proofs.Common.{◌≤◌, arith, Some, Result, Ok, Err}
 use Rattle.cells.specs.declared.cell.Cell.{Cell}
 use Rattle.std.proofs.lemmas.Bool.{cases_lt}
 use Rattle.std.proofs.lemmas.Option.{same_Some}
@@ -33,7 +33,7 @@ use Rattle.wire_frames.specs.Frames.{Message}
 use Rattle.wire_proto.specs.Keeping.{Event, put, cell, row, status, export, save, stored, stats, fold}
 use Rattle.wire_proto.specs.Telling.{Telling}
 use Rattle.wire_proto.specs.Replies.{put_reply, reply_of, refused}
-use Rattle.wire_proto.specs.Answering.{put_limits, kind_number, PutsBatch, RefusesText, faulty, differs, too_large}
+use Rattle.wire_proto.specs.Answering.{put_limits, kind_number, PutsBatch, RefusesText, faulty, exceeds, too_large}
 use Rattle.wire_proto.specs.Answering.{Answers, asked, unasked, of_sum, PutsCells, RefusesCells, too_many, outside, sum_passes}
 use Rattle.wire_proto.specs.CellBytes.{cells_of}
 use Rattle.wire_proto.specs.Plain.{PlainGives, IsAnswered, plain_told}
@@ -53,27 +53,35 @@ use Rattle.wire_proto.specs.Questions.{AreBounds, IsCount, range_between, by_num
 use Rattle.wire_proto.proofs.HasTop.{has_top}
 
 -- a text spells one file at most: its cells
-same_cells : (setup : Setting) (bytes : List ℕ) (cells cells' : List Cell) →
-    Spells bytes put_limits setup.rows setup.cols cells → Spells bytes put_limits setup.rows setup.cols cells' →
-    cells ≡ cells'
-same_cells setup bytes cells cells' a b =
-    (one_file bytes put_limits setup.rows setup.cols setup.rows setup.cols cells cells' a b).2
+same_cells : (bytes : List ℕ) (rows cols rows' cols' : ℕ) (cells cells' : List Cell) →
+    Spells bytes put_limits rows cols cells → Spells bytes put_limits rows' cols' cells' → cells ≡ cells'
+same_cells bytes rows cols rows' cols' cells cells' a b =
+    (one_file bytes put_limits rows cols rows' cols' cells cells' a b).2
+
+-- so it doesn't both pass a setup's rows or columns and fit them
+never_exceeds : (setup : Setting) (bytes : List ℕ) (rows cols rows' cols' : ℕ) (cells cells' : List Cell) →
+    Spells bytes put_limits rows cols cells → Spells bytes put_limits rows' cols' cells' →
+    (setup.rows < rows) ⊎ (setup.cols < cols) → rows' ≤ setup.rows → cols' ≤ setup.cols → ⊥
+never_exceeds setup bytes rows cols rows' cols' cells cells' a b (inl more) r c =
+    let one = one_file bytes put_limits rows cols rows' cols' cells cells' a b in omega (arith, more, r, one.0)
+never_exceeds setup bytes rows cols rows' cols' cells cells' a b (inr more) r c =
+    let one = one_file bytes put_limits rows cols rows' cols' cells cells' a b in omega (arith, more, c, one.1)
 
 pub one_batch : (setup : Setting) (client n : ℕ) (bytes : List ℕ) (b b' : Submission) →
     PutsBatch setup client n bytes b → PutsBatch setup client n bytes b' → b ≡ b'
 one_batch setup client n bytes b b' p q =
     p.batch_is ∙ ap (λ cells. submission client n (matrix setup.rows setup.cols (built_of cells)))
-    (same_cells setup bytes p.cells q.cells p.spells q.spells) ∙ sym q.batch_is
+    (same_cells bytes p.rows p.cols q.rows q.cols p.cells q.cells p.spells q.spells) ∙ sym q.batch_is
 
 -- a text that makes a batch isn't refused
 pub never_both : (setup : Setting) (client n : ℕ) (bytes : List ℕ) (b : Submission) (code detail : ℕ) →
     PutsBatch setup client n bytes b → RefusesText setup bytes code detail → ⊥
 never_both setup client n bytes b code detail p
-    (faulty kind line f i j) = spells_faultless bytes put_limits setup.rows setup.cols p.cells p.spells kind line f
-never_both setup client n bytes b code detail p (differs rows cols cells s d i j) =
-    let one = one_file bytes put_limits rows cols setup.rows setup.cols cells p.cells s p.spells in d (one.0, one.1)
-never_both setup client n bytes b code detail p (too_large cells s l i j) =
-    let e = ap cell_total (same_cells setup bytes cells p.cells s p.spells) in let fits = p.fits in
+    (faulty kind line f i j) = spells_faultless bytes put_limits p.rows p.cols p.cells p.spells kind line f
+never_both setup client n bytes b code detail p (exceeds rows cols cells s more i j) =
+    never_exceeds setup bytes rows cols p.rows p.cols cells p.cells s p.spells more p.few_rows p.few_cols
+never_both setup client n bytes b code detail p (too_large rows cols cells s x y l i j) =
+    let e = ap cell_total (same_cells bytes rows cols p.rows p.cols cells p.cells s p.spells) in let fits = p.fits in
     omega (arith, l, fits, e)
 
 -- a text has one refusal
@@ -85,22 +93,22 @@ one_refusal setup bytes c d c' d' (faulty k l f i j) (faulty k' l' f' i' j') =
       j ∙
           one.1 ∙ sym j',
     )
-one_refusal setup bytes c d c' d' (faulty k l f i j) (differs rows cols cells s n i' j') = absurd
+one_refusal setup bytes c d c' d' (faulty k l f i j) (exceeds rows cols cells s n i' j') = absurd
     (spells_faultless bytes put_limits rows cols cells s k l f)
-one_refusal setup bytes c d c' d' (faulty k l f i j) (too_large cells s n i' j') = absurd
-    (spells_faultless bytes put_limits setup.rows setup.cols cells s k l f)
-one_refusal setup bytes c d c' d' (differs rows cols cells s n i j) (faulty k l f i' j') = absurd
+one_refusal setup bytes c d c' d' (faulty k l f i j) (too_large rows cols cells s x y n i' j') = absurd
     (spells_faultless bytes put_limits rows cols cells s k l f)
-one_refusal setup bytes c d c' d' (differs rows cols cells s n i j) (differs rows' cols' cells' s' n' i' j') =
+one_refusal setup bytes c d c' d' (exceeds rows cols cells s n i j) (faulty k l f i' j') = absurd
+    (spells_faultless bytes put_limits rows cols cells s k l f)
+one_refusal setup bytes c d c' d' (exceeds rows cols cells s n i j) (exceeds rows' cols' cells' s' n' i' j') =
     (i ∙ sym i', j ∙ sym j')
-one_refusal setup bytes c d c' d' (differs rows cols cells s n i j) (too_large cells' s' n' i' j') =
-    let one = one_file bytes put_limits rows cols setup.rows setup.cols cells cells' s s' in absurd (n (one.0, one.1))
-one_refusal setup bytes c d c' d' (too_large cells s n i j) (faulty k l f i' j') = absurd
-    (spells_faultless bytes put_limits setup.rows setup.cols cells s k l f)
-one_refusal setup bytes c d c' d' (too_large cells s n i j) (differs rows' cols' cells' s' n' i' j') =
-    let one = one_file bytes put_limits rows' cols' setup.rows setup.cols cells' cells s' s in
-    absurd (n' (one.0, one.1))
-one_refusal setup bytes c d c' d' (too_large cells s n i j) (too_large cells' s' n' i' j') = (i ∙ sym i', j ∙ sym j')
+one_refusal setup bytes c d c' d' (exceeds rows cols cells s n i j) (too_large rows' cols' cells' s' x y n' i' j') =
+    absurd (never_exceeds setup bytes rows cols rows' cols' cells cells' s s' n x y)
+one_refusal setup bytes c d c' d' (too_large rows cols cells s x y n i j) (faulty k l f i' j') = absurd
+    (spells_faultless bytes put_limits rows cols cells s k l f)
+one_refusal setup bytes c d c' d' (too_large rows cols cells s x y n i j) (exceeds rows' cols' cells' s' n' i' j') =
+    absurd (never_exceeds setup bytes rows' cols' rows cols cells' cells s' s n' x y)
+one_refusal setup bytes c d c' d' (too_large rows cols cells s x y n i j)
+    (too_large rows' cols' cells' s' x' y' n' i' j') = (i ∙ sym i', j ∙ sym j')
 
 -- ---- cells
 pub one_cells_batch : (setup : Setting) (client n : ℕ) (bytes : List ℕ) (b b' : Submission) →
@@ -391,12 +399,6 @@ answered_once v state (Ok Fold ∷ ms) w w' t t' a b = then_one v state Fold ms 
     (λ m p q c d. answered_once v m ms p q t t' c d) a b
 
 -- ---- and there is one
-equal_or_not : (m n : ℕ) → (m ≡ n) ⊎ (m ≡ n → ⊥)
-equal_or_not m n = elim (cases_lt m n) [
-  | inl less ↦ inr (λ e. omega (arith, less, e))
-  | inr ge ↦ elim (cases_lt n m) [ inl more ↦ inr (λ e. omega (arith, more, e)) | inr le ↦ inl (omega (arith, ge, le)) ]
-]
-
 abbrev HasAnswer : Setting → Accepted → Request → Type 0
 HasAnswer v state r = (w : List ℕ) × (t : Accepted) × Answers (PlainGives v) v r w state t
 
@@ -443,35 +445,36 @@ refuses : (v : Setting) (state : Accepted) (c n : ℕ) (bytes : List ℕ) (code 
     RefusesText v bytes code detail → HasAnswer v state (Put c n bytes)
 refuses v state c n bytes code detail h = (refused code detail, state, unasked (code, detail, h, refl) refl)
 
-puts : (v : Setting) (state : Accepted) (c n : ℕ) (bytes : List ℕ) (cells : List Cell) →
-    Spells bytes put_limits v.rows v.cols cells → cell_total cells < 2 ^ 64 → HasAnswer v state (Put c n bytes)
-puts v state c n bytes cells s fits =
+puts : (v : Setting) (state : Accepted) (c n : ℕ) (bytes : List ℕ) (rows cols : ℕ) (cells : List Cell) →
+    Spells bytes put_limits rows cols cells → rows ≤ v.rows → cols ≤ v.cols → cell_total cells < 2 ^ 64 →
+    HasAnswer v state (Put c n bytes)
+puts v state c n bytes rows cols cells s x y fits =
     let b = submission c n (matrix v.rows v.cols (built_of cells)) in
-    let p : PutsBatch v c n bytes b = record { cells = cells; spells = s; fits = fits; batch_is = refl } in
+    let p : PutsBatch v c n bytes b = record {
+      rows = rows;
+      cols = cols;
+      cells = cells;
+      spells = s;
+      few_rows = x;
+      few_cols = y;
+      fits = fits;
+      batch_is = refl;
+    } in
     let h = by_verdict v state b (verdict_in v state b) refl in
     (h.0, h.1, asked (put b h.2) (b, h.2, p, refl) h.3 h.4)
 
-of_dims : (v : Setting) (state : Accepted) (c n : ℕ) (bytes : List ℕ) (rows cols : ℕ) (cells : List Cell) →
-    Spells bytes put_limits rows cols cells →
-    rows ≡ v.rows → cols ≡ v.cols → HasAnswer v state (Put c n bytes)
-of_dims v state c n bytes rows cols cells s e f =
-    let s' = subst (λ r. Spells bytes put_limits r v.cols cells) e
-    (subst (λ k. Spells bytes put_limits rows k cells) f s) in
-    elim (cases_lt (cell_total cells) (2 ^ 64)) [
-      | inl small ↦ puts v state c n bytes cells s' small
-      | inr large ↦ refuses v state c n bytes 21 0 (too_large cells s' large refl refl)
-    ]
-
 of_spelled : (v : Setting) (state : Accepted) (c n : ℕ) (bytes : List ℕ) (rows cols : ℕ) (cells : List Cell) →
     Spells bytes put_limits rows cols cells → HasAnswer v state (Put c n bytes)
-of_spelled v state c n bytes rows cols cells s =
-    elim (equal_or_not rows v.rows) [
-      | inl e ↦ elim (equal_or_not cols v.cols) [
-        | inl f ↦ of_dims v state c n bytes rows cols cells s e f
-        | inr g ↦ refuses v state c n bytes 20 0 (differs rows cols cells s (λ h. g h.1) refl refl)
-      ]
-      | inr g ↦ refuses v state c n bytes 20 0 (differs rows cols cells s (λ h. g h.0) refl refl)
+of_spelled v state c n bytes rows cols cells s = elim (cases_lt v.rows rows) [
+  | inl more ↦ refuses v state c n bytes 20 0 (exceeds rows cols cells s (inl more) refl refl)
+  | inr x ↦ elim (cases_lt v.cols cols) [
+    | inl more ↦ refuses v state c n bytes 20 0 (exceeds rows cols cells s (inr more) refl refl)
+    | inr y ↦ elim (cases_lt (cell_total cells) (2 ^ 64)) [
+      | inl small ↦ puts v state c n bytes rows cols cells s x y small
+      | inr large ↦ refuses v state c n bytes 21 0 (too_large rows cols cells s x y large refl refl)
     ]
+  ]
+]
 
 has_put : (v : Setting) (state : Accepted) (c n : ℕ) (bytes : List ℕ) → HasAnswer v state (Put c n bytes)
 has_put v state c n bytes = elim (spells_or_faulty bytes put_limits) [

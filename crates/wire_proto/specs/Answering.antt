@@ -1,5 +1,6 @@
 -- How one request is answered.
---     PutsBatch       the text of a Put spells a matrix of the setup's dimensions, and this is the batch of its cells
+--     PutsBatch       the text of a Put spells a matrix with no more rows and no more columns than the setup, and this
+--                     is the batch of its cells, in the setup's dimensions
 --     RefusesText     the text is refused, with this code and detail, before the keeper is asked
 --     PutsCells       the cells of a PutCells make a matrix of the setup's dimensions, and this is their batch
 --     RefusesCells    the cells are refused, with this code and detail, before the keeper is asked
@@ -59,19 +60,25 @@ kind_number kinds.ExtraText = 15
 kind_number kinds.TooLong = 16
 
 pub record PutsBatch (setup : Setting) (client n : ℕ) (bytes : List ℕ) (batch : Submission) : Type 0 where
+  pub rows : ℕ
+  pub cols : ℕ
   pub cells : List Cell
-  pub spells : Spells bytes put_limits setup.rows setup.cols cells
+  pub spells : Spells bytes put_limits rows cols cells
+  pub few_rows : rows ≤ setup.rows
+  pub few_cols : cols ≤ setup.cols
   pub fits : cell_total cells < 2 ^ 64
   pub batch_is : batch ≡ submission client n (matrix setup.rows setup.cols (built_of cells))
 
--- The text has a first fault; or it spells a matrix of other dimensions, or cells whose counts don't fit 64 bits.
+-- The text has a first fault; or it spells a matrix with more rows or more columns than the setup; or it has neither
+-- fault, and its counts don't fit 64 bits.
 pub data RefusesText (setup : Setting) (bytes : List ℕ) (code detail : ℕ) : Type 0 where
   faulty : (kind : MmKind) (line : ℕ) → FirstFault bytes put_limits kind line →
       code ≡ 100 + kind_number kind → detail ≡ line → RefusesText setup bytes code detail
-  differs : (rows cols : ℕ) (cells : List Cell) → Spells bytes put_limits rows cols cells →
-      ((rows ≡ setup.rows) × (cols ≡ setup.cols) → ⊥) → code ≡ 20 → detail ≡ 0 → RefusesText setup bytes code detail
-  too_large : (cells : List Cell) → Spells bytes put_limits setup.rows setup.cols cells →
-      2 ^ 64 ≤ cell_total cells → code ≡ 21 → detail ≡ 0 → RefusesText setup bytes code detail
+  exceeds : (rows cols : ℕ) (cells : List Cell) → Spells bytes put_limits rows cols cells →
+      (setup.rows < rows) ⊎ (setup.cols < cols) → code ≡ 20 → detail ≡ 0 → RefusesText setup bytes code detail
+  too_large : (rows cols : ℕ) (cells : List Cell) → Spells bytes put_limits rows cols cells →
+      rows ≤ setup.rows → cols ≤ setup.cols → 2 ^ 64 ≤ cell_total cells → code ≡ 21 → detail ≡ 0 →
+      RefusesText setup bytes code detail
 
 pub record PutsCells (setup : Setting) (client n : ℕ) (bytes : List ℕ) (batch : Submission) : Type 0 where
   pub makes : MakesBatch setup (cells_of bytes)

@@ -6,8 +6,9 @@
 use Rattle.std.specs.Prelude.{ℕ, ◌+◌, ◌/◌, ◌%◌, List, [], ◌∷◌, ◌++◌, length, flat_map, codes, decimal}
 use Rattle.batch_store.specs.Setups.{Setting}
 use Rattle.plain_engine.specs.declared.status.Status.{Status}
+use Rattle.hex.specs.Hex.{encode_lower}
 use Rattle.wire_proto.specs.declared.figures.Amount.{Amount}
-use Rattle.wire_proto.specs.declared.figures.Amount.TheVariants.{Count, Millis, Word}
+use Rattle.wire_proto.specs.declared.figures.Amount.TheVariants.{Count, Millis, Word, Hex}
 use Rattle.wire_proto.specs.declared.figures.Label.{Label}
 use Rattle.wire_proto.specs.declared.figures.Labels.{Labels}
 use Rattle.wire_proto.specs.declared.figures.Labels.TheVariants.{None as NoLabel, One, Two}
@@ -30,6 +31,7 @@ abbrev pub amount_text : Amount → List ℕ
 amount_text (Count n) = decimal n
 amount_text (Millis n) = decimal (n / 1000) ++ 46 ∷ digit (n / 100) ∷ digit (n / 10) ∷ digit n ∷ []
 amount_text (Word word) = word.now
+amount_text (Hex bytes) = encode_lower bytes
 
 abbrev pub label_text : Label → List ℕ
 label_text l = l.key.now ++ 61 ∷ 34 ∷ amount_text l.value ++ 34 ∷ []

@@ -9,6 +9,8 @@ pub enum Amount {
     Millis(u64),
     /// A word, as a version. It has no space in it, no quotation mark and no end of a line.
     Word(&'static str),
+    /// Sixteen bytes, as 32 hexadecimal digits in lower case.
+    Hex([u8; 16]),
 }
 
 /// What a number is of, as the code of a refusal.

@@ -1,5 +1,6 @@
 //! Answers a Stats: the text of what a keeper tells of itself.
 ghost use Rattle.std.specs.Prelude.{◌≡◌, ◌+◌, ◌%◌, ◌≤◌, ◌<◌, ◌^◌, ◌++◌, ◌∷◌, [], length, decimal, IfOk, OnOk, OnErr};
+ghost use Rattle.hex.specs.Hex.{encode_lower};
 ghost use Rattle.wire_proto.specs.Answering.{Answers, RunsOut};
 ghost use Rattle.wire_proto.specs.LongReplies.{bytes_of};
 ghost use Rattle.wire_proto.specs.Replies.{lines_reply as reply_of_lines};
@@ -31,6 +32,16 @@ fn digit(n: u64) -> u8
     b'0' + (n % 10) as u8
 }
 
+/// Appends bytes in hexadecimal digits.
+fn push_hex(out: &mut Vec<u8>, bytes: &[u8; 16]) -> Result<(), AllocError>
+    ensures { OnOk result (out.new.items ≡ out.old.items ++ encode_lower bytes.now) }
+{
+    let mut digits = [0; 32];
+    let is_spelled = hex::encode_to_slice(bytes, &mut digits).is_ok();
+    prove!(is_spelled);
+    out.extend_from_slice(&digits)
+}
+
 /// Appends an amount.
 fn push_amount(out: &mut Vec<u8>, amount: &Amount) -> Result<(), AllocError>
     ensures { OnOk result (out.new.items ≡ out.old.items ++ amount_text amount.now) }
@@ -42,6 +53,7 @@ fn push_amount(out: &mut Vec<u8>, amount: &Amount) -> Result<(), AllocError>
             out.extend_from_slice(&[b'.', digit(*n / 100), digit(*n / 10), digit(*n)])
         }
         Amount::Word(word) => out.extend_from_slice(word.as_bytes()),
+        Amount::Hex(bytes) => push_hex(out, bytes),
     }
 }
 

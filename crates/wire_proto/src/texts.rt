@@ -56,7 +56,7 @@ fn number_of(kind: MmKind) -> u16
     }
 }
 
-/// The batch that a Put's text spells, or the first refusal.
+/// The batch that a Put's text spells, in the setup's dimensions, or the first refusal.
 ///
 /// The text is read where it lies; of it only the cells are kept, and of these only the batch's matrix.
 pub fn batch_of(
@@ -72,7 +72,7 @@ pub fn batch_of(
         Ok(file) => match Batch::make(alloc, setup, client, number, &file) {
             Ok(batch) => Ok(batch),
             Err(BatchFault::Memory) => Err(BodyRefusal::Memory),
-            Err(BatchFault::DimensionsDiffer) => Err(BodyRefusal::Refused {
+            Err(BatchFault::DimensionsTooLarge) => Err(BodyRefusal::Refused {
                 code: 20,
                 detail: 0,
             }),

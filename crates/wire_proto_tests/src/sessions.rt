@@ -40,6 +40,30 @@ static TEXTS: &[Session] = &[
         CLOSED,
         (2, 8),
     ),
+    // A text with fewer rows and columns makes a batch of all rows and columns: the same as a text of these, and as its
+    // cells.
+    (
+        &[
+            Ask::Put(7, 1, "2 1 1\n2 1 5\n"),
+            Ask::Put(7, 1, "2 1 1\n2 1 5\n"),
+            Ask::Put(7, 1, "3 3 1\n2 1 5\n"),
+            Ask::Cells(7, 1, &[(1, 0, 5)]),
+            Ask::Put(8, 1, "3 1 1\n3 1 2\n"),
+            Ask::Row(1),
+            Ask::Export,
+        ],
+        "00000010 81 0000000000000000 0000000000000005
+         00000010 81 0000000000000000 0000000000000005
+         00000010 81 0000000000000000 0000000000000005
+         00000010 81 0000000000000000 0000000000000005
+         00000010 81 0000000000000001 0000000000000007
+         00000010 83 0000000000000001 0000000000000005
+         00000043 85
+         25254d61747269784d61726b6574206d617472697820636f6f7264696e61746520696e74656765722067656e6572616c0a
+         33203320320a 32203120350a 33203120320a",
+        CLOSED,
+        (2, 7),
+    ),
     // Queries of stored zeros, of cells that aren't stored, of rows, and past the last row and column.
     (
         &[
@@ -85,7 +109,8 @@ static TEXTS: &[Session] = &[
     ),
 ];
 
-// Puts that are refused for their texts, each with a code and a detail.
+// Puts that are refused for their texts, each with a code and a detail. An entry outside of a text's own rows and
+// columns is refused, also where it lies within the engine's.
 static REFUSED_TEXTS: &[Session] = &[(
     &[
         Ask::Text(7, 1, "%%MatrixMarket matrix coordinate integer\n3 3 0\n"),
@@ -104,7 +129,11 @@ static REFUSED_TEXTS: &[Session] = &[(
         Ask::Put(7, 1, "3 3 1\n4 1 1\n"),
         Ask::Put(7, 1, "3 3 2\n1 1 5\n"),
         Ask::Put(7, 1, "3 3 1\n1 1 5\n2 2 5\n"),
-        Ask::Put(7, 1, "3 2 0\n"),
+        Ask::Put(7, 1, "2 3 1\n3 1 1\n"),
+        Ask::Put(7, 1, "3 2 1\n1 3 1\n"),
+        Ask::Put(7, 1, "4 3 0\n"),
+        Ask::Put(7, 1, "3 4 0\n"),
+        Ask::Put(7, 1, "4 3 1\n5 1 1\n"),
         Ask::Put(7, 1, "3 3 2\n1 1 18446744073709551615\n1 2 1\n"),
         Ask::Put(7, 1, "3 3 1\n1 1 18446744073709551615\n"),
     ],
@@ -120,7 +149,11 @@ static REFUSED_TEXTS: &[Session] = &[(
      0000000a ff 0071 0000000000000003
      0000000a ff 0072 0000000000000004
      0000000a ff 0073 0000000000000004
+     0000000a ff 0071 0000000000000003
+     0000000a ff 0071 0000000000000003
      0000000a ff 0014 0000000000000000
+     0000000a ff 0014 0000000000000000
+     0000000a ff 0071 0000000000000003
      0000000a ff 0015 0000000000000000
      0000000a ff 001f 0000000000000000",
     CLOSED,

@@ -5,7 +5,7 @@ use batch_store::{Batch, BookList, Entry, Setup};
 use log_desk::{FailAt, Log, LogFailed, MemoryLog, NoPause, RoomFault};
 use log_folder::LogNews;
 use session_pool::LogPlace;
-use snap_file::SaveFault;
+use snap_file::{Identity, SaveFault};
 use std::alloc::Global;
 use std::sync::Arc;
 
@@ -85,11 +85,14 @@ fn failure_under(path: &str) -> FailAt {
 impl LogPlace<TestLog> for HostRuntime {
     ghost names = { λ place path entries. ⊤ };
 
+    ghost begins = { λ place path setup identity entries. ⊤ };
+
     fn begin_log(
         &self,
         alloc: Global,
         path: &str,
         _snapshot: Option<&str>,
+        _identity: Identity,
         _setup: &Setup,
         list: &BookList,
         _news: Option<&Arc<LogNews>>,
@@ -109,6 +112,7 @@ impl LogPlace<TestLog> for HostRuntime {
         _alloc: Global,
         path: &str,
         _snapshot: Option<&str>,
+        _identity: Identity,
         in_use: &mut TestLog,
         new: TestLog,
         _news: Option<&Arc<LogNews>>,

@@ -39,7 +39,7 @@ static IN_VERSION_ONE: Rows = &[
     // The limit: no less than the total, 5.
     (53, b"\x04", Some(SnapFault::BadHead)),
     (53, b"\x05", None),
-    // The most batches: at least 1 and at most 1,000,000.
+    // The most batches: at least 1 and, before version 4, at most 1,000,000.
     (61, b"\0", Some(SnapFault::BadHead)),
     (54, b"\0\0\0\0\0\x0f\x42\x40", None),
     (54, b"\0\0\0\0\0\x0f\x42\x41", Some(SnapFault::BadHead)),
@@ -84,8 +84,11 @@ static FOLDED: Rows = &[
     ),
 ];
 
-/// Of `CHECKED_ONE`: each checksum, a client that may be another but for its checksum, and a row that is judged first.
+/// Of `CHECKED_ONE`: 1,000,000 batches, which the setup may allow, and one more, which it may not; each checksum, a client
+/// that may be another but for its checksum, and a row that is judged first.
 static CHECKED: Rows = &[
+    (54, b"\0\0\0\0\0\x0f\x42\x40", Some(SnapFault::BadCheck)),
+    (54, b"\0\0\0\0\0\x0f\x42\x41", Some(SnapFault::BadHead)),
     (81, b"\xf7", Some(SnapFault::BadCheck)),
     (101, b"\x0c", Some(SnapFault::BadCheck)),
     (153, b"\x59", Some(SnapFault::BadCheck)),
@@ -93,8 +96,11 @@ static CHECKED: Rows = &[
     (133, b"\x03", Some(SnapFault::BadBatch)),
 ];
 
-/// Of `NAMED_ONE`: a byte of the book, the byte that says whether there is a log, and the head's checksum.
+/// Of `NAMED_ONE`: 2^30 batches, which the setup may allow from version 4 on, and one more, which it may not; a byte of the
+/// book, the byte that says whether there is a log, and the head's checksum.
 static NAMED: Rows = &[
+    (54, b"\0\0\0\0\x40\0\0\0", Some(SnapFault::BadCheck)),
+    (54, b"\0\0\0\0\x40\0\0\x01", Some(SnapFault::BadHead)),
     (78, b"\x01", Some(SnapFault::BadCheck)),
     (102, b"\0", Some(SnapFault::BadCheck)),
     (102, b"\x02", Some(SnapFault::BadHead)),

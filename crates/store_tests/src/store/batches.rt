@@ -27,8 +27,14 @@ fn file(rt: &impl Abort, alloc: Global, tail: &str) -> MmFile {
 
 static FAULTS: &[(&str, Option<BatchFault>)] = &[
     ("3 3 0\n", None),
-    ("2 3 0\n", Some(BatchFault::DimensionsDiffer)),
-    ("3 2 0\n", Some(BatchFault::DimensionsDiffer)),
+    // Fewer rows, fewer columns, both; one row more, one column more, also beside fewer of the other.
+    ("2 3 0\n", None),
+    ("3 2 0\n", None),
+    ("1 1 1\n1 1 5\n", None),
+    ("4 3 0\n", Some(BatchFault::DimensionsTooLarge)),
+    ("3 4 0\n", Some(BatchFault::DimensionsTooLarge)),
+    ("4 2 0\n", Some(BatchFault::DimensionsTooLarge)),
+    ("2 4 0\n", Some(BatchFault::DimensionsTooLarge)),
     // Two counts of 2^63, and one less.
     (
         "3 3 2\n1 1 9223372036854775808\n1 2 9223372036854775808\n",
@@ -38,10 +44,14 @@ static FAULTS: &[(&str, Option<BatchFault>)] = &[
         "3 3 2\n1 1 9223372036854775808\n1 2 9223372036854775807\n",
         None,
     ),
+    (
+        "2 2 2\n1 1 9223372036854775808\n1 2 9223372036854775808\n",
+        Some(BatchFault::SumTooLarge),
+    ),
     // Dimensions are judged first.
     (
-        "2 3 2\n1 1 9223372036854775808\n1 2 9223372036854775808\n",
-        Some(BatchFault::DimensionsDiffer),
+        "4 3 2\n1 1 9223372036854775808\n1 2 9223372036854775808\n",
+        Some(BatchFault::DimensionsTooLarge),
     ),
 ];
 

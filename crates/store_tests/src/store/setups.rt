@@ -16,7 +16,7 @@ static JUDGED: &[Judged] = &[
         &[1, 2, 3, 4, 5, 6, 1 << 40],
         64,
         u64::MAX,
-        1_000_000,
+        1 << 30,
         None,
     ),
     (0, 3, &[2, 4], 2, 100, 10, Some(SetupFault::BadDimension)),
@@ -51,7 +51,7 @@ static JUDGED: &[Judged] = &[
         &[2, 4],
         2,
         100,
-        1_000_001,
+        (1 << 30) + 1,
         Some(SetupFault::BadBatches),
     ),
     // The first of several faults is reported.

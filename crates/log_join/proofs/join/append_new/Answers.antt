@@ -3,22 +3,14 @@ use Rattle.std.proofs.lemmas.Result.{err_from_is_err_and}
 use Rattle.std.specs.Arc.{arc_value}
 use Rattle.batch_store.specs.Batches.{values}
 use Rattle.log_join.proofs.PlaceLemmas.{item_at}
-use Rattle.log_join.proofs.JoinLemmas.{dims_at, listed_more, fresh_more, judged_here}
+use Rattle.log_join.proofs.JoinLemmas.{listed_more, fresh_more, judged_here}
 use Rattle.log_join.proofs.join.append_new.Goals as goal
 
-pub take_batch-requires-clause-rows : goal.take_batch-requires-clause-rows
-take_batch-requires-clause-rows c =
+pub take_batch-requires-clause-fits : goal.take_batch-requires-clause-fits
+take_batch-requires-clause-fits c =
     let bs = c.args.batches.now in
     let d = c.index-batches-i.result in
-    let here = item_at bs c.batches.i d c.batches-test.true c.index-batches-i.is in
-    (dims_at c.args.setup.now.rows c.args.setup.now.cols (values bs) c.batches.i (arc_value d) c.requires.dims here).0
-
-pub take_batch-requires-clause-cols : goal.take_batch-requires-clause-cols
-take_batch-requires-clause-cols c =
-    let bs = c.args.batches.now in
-    let d = c.index-batches-i.result in
-    let here = item_at bs c.batches.i d c.batches-test.true c.index-batches-i.is in
-    (dims_at c.args.setup.now.rows c.args.setup.now.cols (values bs) c.batches.i (arc_value d) c.requires.dims here).1
+    c.requires.fit c.batches.i (arc_value d) (item_at bs c.batches.i d c.batches-test.true c.index-batches-i.is)
 
 pub returns-in_err-take_batch-clause-err : goal.returns-in_err-take_batch-clause-err
 returns-in_err-take_batch-clause-err c =
@@ -27,7 +19,7 @@ returns-in_err-take_batch-clause-err c =
     let bs = c.args.batches.now in
     let d = c.index-batches-i.result in
     let here = item_at bs c.batches.i d c.batches-test.true c.index-batches-i.is in
-    rw (p.1, p.2) (judged_here s.limit s.max_batches c.args.known c.batches.list (values bs) c.batches.i (arc_value d)
+    rw (p.1, p.2) (judged_here s c.args.known c.batches.list (values bs) c.batches.i (arc_value d)
     c.batches.invariant.list here _ c.batches.invariant.fresh c.in_err-take_batch.ensures.err)
 
 pub batches-preserved : goal.batches-preserved
@@ -38,12 +30,12 @@ batches-preserved c =
     let here = item_at bs c.batches.i d c.batches-test.true c.index-batches-i.is in
     let inv = c.batches.invariant in
     record {
-      list = listed_more s.limit s.max_batches c.args.known c.batches.list (values bs) c.batches.i
+      list = listed_more s c.args.known c.batches.list (values bs) c.batches.i
           (arc_value d) inv.list here
           c.take_batch.new.list c.in_ok-take_batch.ensures.list;
       seen = c.in_ok-take_batch.ensures.seen;
       accepted = c.in_ok-take_batch.ensures.accepted;
-      fresh = fresh_more s.limit s.max_batches c.args.known c.batches.list (values bs) c.batches.i
+      fresh = fresh_more s c.args.known c.batches.list (values bs) c.batches.i
           (arc_value d) inv.list
           here inv.fresh c.in_ok-take_batch.ensures.fresh;
     }

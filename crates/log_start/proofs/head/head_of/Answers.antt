@@ -4,7 +4,6 @@ use Rattle.batch_store.specs.Books.{Listing}
 use Rattle.batch_store.specs.Verdicts.{total_of_entries}
 use Rattle.log_join.specs.Joins.{known_entries}
 use Rattle.log_start.proofs.Summed.{is_head, is_log, parts_fit, whole_summed}
-use Rattle.log_head.proofs.HeadLaws.{unknown_fits}
 use Rattle.log_start.proofs.head.head_of.Goals as goal
 
 pub add_folded-requires : goal.add_folded-requires
@@ -71,7 +70,7 @@ returns-clause-head c =
     let fits : c.value.result < 2 ^ 32 = search rules in
     is_head c.args.setup.now c.args.list.now c.add_batches.new.front _ c.requires.accepted whole refl
     c.count_of.ensures refl (c.value.ensures (known_entries c.args.list.now) whole.link) fits
-    (unknown_fits c.unknown.result c.unknown.ensures)
+    (search rules)
 
 pub returns-clause-log : goal.returns-clause-log
 returns-clause-log c =
@@ -88,7 +87,7 @@ returns-clause-log c =
       first = c.count_of.result;
       total = c.add_batches.new.front.total;
       link = c.value.result;
-      identity = c.unknown.result;
+      identity = c.args.identity;
     }) c.requires.accepted whole refl c.count_of.ensures refl
     (c.value.ensures (known_entries c.args.list.now) whole.link) fits
-    (unknown_fits c.unknown.result c.unknown.ensures)
+    (search rules)

@@ -1,10 +1,10 @@
 use Rattle.std.proofs.Common.{◌∙◌, ◌+◌, ◌^◌, ◌≤◌, inl, inr, ℕ, length, take, ap, sym, subst, rules, arith}
 use Rattle.batch_store.specs.Books.{Listing}
 use Rattle.log_join.specs.Joins.{known_entries}
-use Rattle.log_start.specs.Records.{IsLogOf, log_in}
+use Rattle.log_start.specs.Records.{log_in}
 use Rattle.log_start.specs.Starts.{IsJoined}
 use Rattle.log_start.proofs.Listed.{begins_within, found_log, is_joined, nothing_more}
-use Rattle.log_start.proofs.Reading.{if_err_map, if_ok_both, if_ok_map}
+use Rattle.log_start.proofs.Reading.{if_err_map, if_ok_all, if_ok_both, if_ok_map}
 use Rattle.log_start.proofs.Refusals.{file_refused}
 use Rattle.log_start.proofs.Settles.{fails_again, found_again, goes_again, settled_again}
 use Rattle.log_start.proofs.start.start_from.Goals as goal
@@ -13,27 +13,25 @@ pub returns-in-Err-clause-why : goal.returns-in-Err-clause-why
 returns-in-Err-clause-why g c =
     file_refused g.F.Disk.LogDisk.tells g.F.Disk.LogDisk.written g.F.Disk.LogDisk.may_leave g.F.Disk.LogDisk.moment
     g.F.Disk.LogDisk.left_since g.F.Disk.LogDisk.failure_count g.F.Disk.LogDisk.in_doubt c.args.found.file.disk
-    c.args.found.length g.kept.0 g.kept.1 c.args.setup.now c.args.known _ _ c.in-Err.fault c.fault_of_log.result
+    c.args.found.length g.kept.0 g.kept.1 c.args.setup.now c.args.owner.now c.args.known _ _ c.in-Err.fault c.fault_of_log.result
     c.fault_of_log.ensures.memory c.fault_of_log.ensures.other c.in-Err.ensures.err
 
 pub returns-then-log-count_of-clause-list : goal.returns-then-log-count_of-clause-list
 returns-then-log-count_of-clause-list g c =
     let ok = c.in-Ok.ensures.ok in
-    if_ok_map c.begin_behind.result c.begin_behind.ensures.list (λ s same. (
+    if_ok_all c.begin_behind.result c.begin_behind.ensures.list c.begin_behind.ensures.identity
+    c.begin_behind.ensures.setup (λ s same named setup. (
       ok.0,
-      subst (IsJoined c.args.setup.now c.args.known ok.0) (sym same)
-          (is_joined c.args.setup.now c.args.known c.in-Ok-join_found.list ok.0 c.in-Ok.log ok.1
-          c.in-Ok-join_found.ensures.ok),
+      subst (λ (v : Listing). IsJoined c.args.setup.now c.args.owner.now c.args.known ok.0 v s.identity s.setup) (sym same)
+          (is_joined c.args.setup.now c.args.owner.now c.args.known c.in-Ok-join_found.list s.identity s.setup ok.0
+          c.in-Ok.log ok.1 c.in-Ok-join_found.ensures.book c.in-Ok-join_found.ensures.ok
+          (inr (named ∙ c.or_else-identity.ensures, setup))),
       ok.2,
     ))
 
 pub returns-then-log-count_of-clause-log : goal.returns-then-log-count_of-clause-log
 returns-then-log-count_of-clause-log g c =
-    if_ok_both c.begin_behind.result c.begin_behind.ensures.list c.begin_behind.ensures.log (λ s same told. (
-      told.0,
-      subst (λ (v : Listing). IsLogOf told.0 (known_entries v)) (sym same) told.1,
-      told.2,
-    ))
+    c.begin_behind.ensures.log
 
 pub returns-then-log-count_of-clause-mark : goal.returns-then-log-count_of-clause-mark
 returns-then-log-count_of-clause-mark g c =
@@ -79,7 +77,7 @@ returns-in-Ok-settle_found-clause-log g c =
           g.F.Disk.LogDisk.moment g.F.Disk.LogDisk.left_since c.args.found.file.disk c.read_found.new.disk
           g.kept.0 g.kept.1 kept
           (g.met.F.Disk.LogDisk.only_now c.args.found.file.disk) c.in-Ok.log ok.0 found
-          (ok.2 told.0 told.1) told.2 c.in-Ok-settle_found.log.file.disk c.in-Ok-settle_found.log.writer
+          (ok.2 told.0 told.1) told.2 c.in-Ok-settle_found.in_use.file.disk c.in-Ok-settle_found.in_use.writer
           (c.in-Ok-settle_found.ensures.settled kept.told),
     )
 
@@ -92,7 +90,7 @@ returns-in-Ok-settle_found-clause-file g c = λ tells.
     g.F.Disk.LogDisk.moment g.F.Disk.LogDisk.left_since c.args.found.file.disk c.read_found.new.disk
     g.kept.0 g.kept.1 kept
     (g.met.F.Disk.LogDisk.only_now c.args.found.file.disk) c.in-Ok.log ok.0 ok.1
-    (ok.2 told.0 told.1) told.2 c.in-Ok-settle_found.log.file.disk
+    (ok.2 told.0 told.1) told.2 c.in-Ok-settle_found.in_use.file.disk
     (c.in-Ok-settle_found.ensures.goes_on kept.told))
 
 pub returns-clause-why : goal.returns-clause-why

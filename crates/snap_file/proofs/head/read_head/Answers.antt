@@ -3,7 +3,7 @@ use Rattle.std.proofs.lemmas.Result.{err_from_is_err_and}
 use Rattle.std.specs.Int.{w64}
 use Rattle.byte_io.specs.declared.fault.DeviceFault.{DeviceFault}
 use Rattle.batch_store.specs.Setups.{Setting}
-use Rattle.snap_file.specs.Table.{Reading, field_in, head}
+use Rattle.snap_file.specs.Table.{Reading, field_in, setup_fields, head}
 use Rattle.snap_file.specs.Outcomes.{Task, ReaderState, HasJudged, IsOfBytes}
 use Rattle.snap_file.specs.declared.head.Head.{Head}
 use Rattle.snap_file.specs.declared.fault.SnapFault.TheVariants.{BadMark, BadVersion, BadHead}
@@ -26,6 +26,18 @@ total_field k version setup batches = field_in w64 0 setup.limit BadHead (λ tot
 -- what follows the setup
 abbrev batch_fields : (Head → Reading) → ℕ → Setting → Reading
 batch_fields k version setup = field_in w64 0 setup.max_batches BadHead (total_field k version setup)
+
+-- what follows the version
+abbrev setup_part : (Head → Reading) → ℕ → ℕ → Reading
+setup_part k version most = setup_fields most (batch_fields k version)
+
+-- the most batches, which the code has from a call
+allowed_as : {S : Type 0} (gives : S → Result (List ℕ) DeviceFault → S → Type 0) (failures : S → ℕ) (m : Task) (s t : S)
+    (reader : ReaderState) (version n n' : ℕ) (k : Head → Reading) → n' ≡ n →
+    HasJudged gives failures m s t reader (setup_part k version n) →
+    HasJudged gives failures m s t reader (setup_part k version n')
+allowed_as gives failures m s t reader version n n' k e h =
+    subst (λ (x : ℕ). HasJudged gives failures m s t reader (setup_part k version x)) (sym e) h
 
 -- a number that the code has from a call
 most_as : {S : Type 0} (gives : S → Result (List ℕ) DeviceFault → S → Type 0) (failures : S → ℕ) (m : Task) (s t : S)
@@ -59,6 +71,7 @@ read_setup-requires g c = record {
     c.in_ok-_mark.ensures.no_failure,
     c.in_ok-version.ensures.no_failure,
   );
+  most = c.most_batches-most.ensures.fits;
 }
 
 pub next_u64_in-requires-2-clause-failures : goal.next_u64_in-requires-2-clause-failures
@@ -100,7 +113,9 @@ returns-in_err-setup-clause-err g c =
     let p = err_from_is_err_and c.from_residual-in_err-setup.result c.from_residual-in_err-setup.ensures.1 in
     rw (p.1, p.2) (λ s m k h.
     c.in_err-setup.ensures.err s m (batch_fields k c.in_ok-version.version)
-    (c.in_ok-version.ensures.ok s m _ (c.in_ok-_mark.ensures.ok s m _ h)))
+    (allowed_as {S = g.row.R.Denot} g.R.Source.read_gives g.R.Source.failure_count m s c.next_u32_in.new.r
+    c.next_u32_in.new.self c.in_ok-version.version _ _ k c.most_batches-most.ensures.value
+    (c.in_ok-version.ensures.ok s m _ (c.in_ok-_mark.ensures.ok s m _ h))))
 
 pub returns-in_err-batches-clause-err : goal.returns-in_err-batches-clause-err
 unfolding head
@@ -111,7 +126,9 @@ returns-in_err-batches-clause-err g c =
     (most_as {S = g.row.R.Denot} g.R.Source.read_gives g.R.Source.failure_count m s c.read_setup.new.r
     c.read_setup.new.reader _ _ _ c.max_batches.ensures.value
     (c.in_ok-setup.ensures.ok s m (batch_fields k c.in_ok-version.version)
-    (c.in_ok-version.ensures.ok s m _ (c.in_ok-_mark.ensures.ok s m _ h)))))
+    (allowed_as {S = g.row.R.Denot} g.R.Source.read_gives g.R.Source.failure_count m s c.next_u32_in.new.r
+    c.next_u32_in.new.self c.in_ok-version.version _ _ k c.most_batches-most.ensures.value
+    (c.in_ok-version.ensures.ok s m _ (c.in_ok-_mark.ensures.ok s m _ h))))))
 
 pub returns-in_err-total-clause-err : goal.returns-in_err-total-clause-err
 unfolding head
@@ -125,7 +142,9 @@ returns-in_err-total-clause-err g c =
     (most_as {S = g.row.R.Denot} g.R.Source.read_gives g.R.Source.failure_count m s c.read_setup.new.r
     c.read_setup.new.reader _ _ _ c.max_batches.ensures.value
     (c.in_ok-setup.ensures.ok s m (batch_fields k c.in_ok-version.version)
-    (c.in_ok-version.ensures.ok s m _ (c.in_ok-_mark.ensures.ok s m _ h)))))))
+    (allowed_as {S = g.row.R.Denot} g.R.Source.read_gives g.R.Source.failure_count m s c.next_u32_in.new.r
+    c.next_u32_in.new.self c.in_ok-version.version _ _ k c.most_batches-most.ensures.value
+    (c.in_ok-version.ensures.ok s m _ (c.in_ok-_mark.ensures.ok s m _ h))))))))
 
 pub returns-clause-ok : goal.returns-clause-ok
 unfolding head
@@ -137,7 +156,9 @@ returns-clause-ok g c = λ s m k h.
     (most_as {S = g.row.R.Denot} g.R.Source.read_gives g.R.Source.failure_count m s c.read_setup.new.r
     c.read_setup.new.reader _ _ _ c.max_batches.ensures.value
     (c.in_ok-setup.ensures.ok s m (batch_fields k c.in_ok-version.version)
-    (c.in_ok-version.ensures.ok s m _ (c.in_ok-_mark.ensures.ok s m _ h))))))
+    (allowed_as {S = g.row.R.Denot} g.R.Source.read_gives g.R.Source.failure_count m s c.next_u32_in.new.r
+    c.next_u32_in.new.self c.in_ok-version.version _ _ k c.most_batches-most.ensures.value
+    (c.in_ok-version.ensures.ok s m _ (c.in_ok-_mark.ensures.ok s m _ h)))))))
 
 pub returns-clause-few : goal.returns-clause-few
 returns-clause-few g c = omega (arith, c.in_ok-batches.ensures.bounds.1, c.max_batches.ensures.value)

@@ -147,7 +147,8 @@ pub setup_of-requires-clause-limit : goal.setup_of-requires-clause-limit
 setup_of-requires-clause-limit g c = c.in_ok-limit.ensures.bounds.0
 
 pub setup_of-requires-clause-batches : goal.setup_of-requires-clause-batches
-setup_of-requires-clause-batches g c = c.in_ok-max_batches.ensures.bounds
+setup_of-requires-clause-batches g c =
+    let bounds = c.in_ok-max_batches.ensures.bounds in (bounds.0, omega (arith, bounds.1, c.requires.most))
 
 pub setup_of-requires-clause-shards : goal.setup_of-requires-clause-shards
 setup_of-requires-clause-shards g c = c.in_ok-shards.ensures.bounds

@@ -3,7 +3,7 @@ use Rattle.std.proofs.lemmas.Result.{on_ok_weaker}
 use Rattle.byte_io.specs.Writing.{HasTaken, HasStopped}
 use Rattle.snap_report.specs.Logged.{Checked, HasRead, IsLogTold}
 use Rattle.snap_report.specs.declared.fault.CheckFault.TheVariants.{Memory}
-use Rattle.snap_report.proofs.LoggedLemmas.{passed_on, empty_refused, output_told, refusal_told}
+use Rattle.snap_report.proofs.LoggedLemmas.{no_output, passed_on, empty_refused, output_told, refusal_told}
 use Rattle.snap_report.proofs.check_log.run_check_with_log.Goals as goal
 
 pub returns-in_err-known-clause-told : goal.returns-in_err-known-clause-told
@@ -31,6 +31,12 @@ returns-in_err-lines-clause-told g c =
       known_is = c.in_ok-known.ensures;
     })
     c.in_err-lines.ensures.err)
+
+-- a fault of the log's file is no fault of the output
+pub returns-in_err-logged-clause-output : goal.returns-in_err-logged-clause-output
+returns-in_err-logged-clause-output g c fault is =
+    no_output _ c.from_residual-in_err-logged.result c.in_err-logged.field-0.0 fault
+    c.from_residual-in_err-logged.ensures.1 is
 
 pub returns-clause-ok : goal.returns-clause-ok
 returns-clause-ok g c =

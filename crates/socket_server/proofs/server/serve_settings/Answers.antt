@@ -3,6 +3,10 @@ use Rattle.std.specs.Prelude.{Bool, IfOk, IfErr, Option, String, is_some}
 use Rattle.std.proofs.lemmas.Result.{IfOk-weaker}
 use Rattle.batch_store.specs.Setups.{Setting}
 use Rattle.batch_store.specs.Accepted.{Accepted}
+use Rattle.session_pool.specs.Saves.{of_origin}
+use Rattle.snap_file.specs.Origins.{origin}
+use Rattle.snap_file.specs.declared.origin.Identity.{Identity}
+use Rattle.snap_file.specs.declared.origin.Origin.{Origin}
 use Rattle.socket_server.specs.Ends.{HasEnded, IsShort, stopped}
 use Rattle.socket_server.specs.Starts.{StartsFrom}
 use Rattle.socket_server.proofs.FaultLaws.{short_weaker}
@@ -12,39 +16,53 @@ use Rattle.socket_server.proofs.server.serve_settings.Goals as goal
 pub returns-clause-ended : goal.returns-clause-ended
 returns-clause-ended g c =
     let a = c.in_ok-start.start.plain.book.state in
+    let i = c.in_ok-start.start.identity in
     let told = c.in_ok-start.ensures in
     let saves = g.R.Disk.saves in
     let synced = g.L.Log.was_synced in
     let h = c.args.rt.now in
     let log = is_some c.in_ok-start.start.log in
-    IfOk-weaker c.serve_plan.result _ _ (λ s e. (a, told.start, e))
+    let own = origin i (is_some c.args.settings.log) in
+    IfOk-weaker c.serve_plan.result _ _ (λ s e. (a, i, told.start, e))
     (subst (λ (b : Bool). IfOk c.serve_plan.result
-    (λ s. HasEnded saves h synced c.args.settings.snapshot c.args.settings.setup b a (stopped s 0))) told.has_log
+    (λ s. HasEnded (of_origin saves own) h synced c.args.settings.snapshot c.args.settings.setup b a (stopped s 0)))
+    told.has_log
     (subst (λ (p : Option (String _)). IfOk c.serve_plan.result
-    (λ s. HasEnded saves h synced p c.args.settings.setup log a (stopped s 0))) c.plan_of-plan.ensures.path
+    (λ s. HasEnded (of_origin saves own) h synced p c.args.settings.setup log a (stopped s 0))) c.plan_of-plan.ensures.path
+    (subst (λ (o : Origin). IfOk c.serve_plan.result
+    (λ s. HasEnded (of_origin saves o) h synced c.plan_of-plan.result.saver.path c.args.settings.setup log a
+    (stopped s 0))) c.plan_of-plan.ensures.origin
     (subst (λ (v : Setting). IfOk c.serve_plan.result
-    (λ s. HasEnded saves h synced c.plan_of-plan.result.saver.path v log a (stopped s 0))) told.setup
-    c.serve_plan.ensures.ended)))
+    (λ s. HasEnded (of_origin saves c.plan_of-plan.result.saver.origin) h synced c.plan_of-plan.result.saver.path v log a
+    (stopped s 0))) told.setup c.serve_plan.ensures.ended))))
 
 -- and so where batches are missing
 pub returns-clause-short : goal.returns-clause-short
 returns-clause-short g c =
     let a = c.in_ok-start.start.plain.book.state in
+    let i = c.in_ok-start.start.identity in
     let told = c.in_ok-start.ensures in
     let saves = g.R.Disk.saves in
     let synced = g.L.Log.was_synced in
     let h = c.args.rt.now in
     let log = is_some c.in_ok-start.start.log in
+    let own = origin i (is_some c.args.settings.log) in
     short_weaker c.serve_plan.result
-    (HasEnded saves h synced c.args.settings.snapshot c.args.settings.setup (is_some c.args.settings.log) a)
-    (λ s. (x : Accepted) × StartsFrom g.R.Host.loads g.R.LogHost.log_starts h c.args.settings.snapshot
-    c.args.settings.log c.args.settings.must_load c.args.settings.setup x
-    × HasEnded saves h synced c.args.settings.snapshot c.args.settings.setup (is_some c.args.settings.log) x s)
-    (λ s e. (a, told.start, e))
+    (HasEnded (of_origin saves own) h synced c.args.settings.snapshot c.args.settings.setup
+    (is_some c.args.settings.log) a)
+    (λ s. (x : Accepted) × (j : Identity) × StartsFrom g.R.Host.loads g.R.LogHost.log_starts g.R.Disk.saves
+    g.R.LogPlace.begins g.R.LogPlace.names h c.args.settings.snapshot
+    c.args.settings.log c.args.settings.must_load c.args.settings.setup j x
+    × HasEnded (of_origin saves (origin j (is_some c.args.settings.log))) h synced c.args.settings.snapshot
+    c.args.settings.setup (is_some c.args.settings.log) x s)
+    (λ s e. (a, i, told.start, e))
     (subst (λ (b : Bool). IfErr c.serve_plan.result
-    (IsShort (HasEnded saves h synced c.args.settings.snapshot c.args.settings.setup b a))) told.has_log
+    (IsShort (HasEnded (of_origin saves own) h synced c.args.settings.snapshot c.args.settings.setup b a))) told.has_log
     (subst (λ (p : Option (String _)). IfErr c.serve_plan.result
-    (IsShort (HasEnded saves h synced p c.args.settings.setup log a))) c.plan_of-plan.ensures.path
+    (IsShort (HasEnded (of_origin saves own) h synced p c.args.settings.setup log a))) c.plan_of-plan.ensures.path
+    (subst (λ (o : Origin). IfErr c.serve_plan.result
+    (IsShort (HasEnded (of_origin saves o) h synced c.plan_of-plan.result.saver.path c.args.settings.setup log a)))
+    c.plan_of-plan.ensures.origin
     (subst (λ (v : Setting). IfErr c.serve_plan.result
-    (IsShort (HasEnded saves h synced c.plan_of-plan.result.saver.path v log a))) told.setup
-    c.serve_plan.ensures.short)))
+    (IsShort (HasEnded (of_origin saves c.plan_of-plan.result.saver.origin) h synced c.plan_of-plan.result.saver.path v
+    log a))) told.setup c.serve_plan.ensures.short))))

@@ -4,6 +4,7 @@ use Rattle.batch_store.specs.Accepted.{entries_in}
 use Rattle.plain_engine.specs.declared.status.Status.{Status}
 use Rattle.locked_engine.specs.Told.{AreShown}
 use Rattle.locked_engine.specs.Views.{SeatView}
+use Rattle.session_pool.specs.Saves.{of_origin}
 use Rattle.socket_server.specs.Ends.{HasEnded, stopped}
 use Rattle.socket_server.proofs.EndLaws.{stored_by}
 use Rattle.socket_server.proofs.SeatLaws.{written_back}
@@ -13,7 +14,7 @@ use Rattle.socket_server.proofs.serving.close_opened.Goals as goal
 pub returns-in_default-clause-ended : goal.returns-in_default-clause-ended
 returns-in_default-clause-ended g c =
     let h = c.in_ok-status.ensures.ended in
-    subst (λ (b : Bool). HasEnded g.R.Disk.saves c.args.rt.now g.L.Log.was_synced c.args.saver.now.path g.N.Named.setup b
+    subst (λ (b : Bool). HasEnded (of_origin g.R.Disk.saves c.args.saver.now.origin) c.args.rt.now g.L.Log.was_synced c.args.saver.now.path g.N.Named.setup b
     g.N.Named.opened (stopped c.in_ok-status.status 0))
     (sym (ap is_some c.in_default.is)) (h.0, h.2, h.3, ap (λ (n : Status). stopped n 0) h.4)
 
@@ -28,7 +29,7 @@ returns-clause-ended g c =
     let seats = written_back old.len c.learn.new.seats old.items has long in
     let h = c.in_ok-accepted.ensures.ended in
     let shown = subst (λ (l : List SeatView). AreShown l (entries_in h.0)) seats h.1.shown in
-    subst (λ (b : Bool). HasEnded g.R.Disk.saves c.args.rt.now g.L.Log.was_synced c.args.saver.now.path g.N.Named.setup b
+    subst (λ (b : Bool). HasEnded (of_origin g.R.Disk.saves c.args.saver.now.origin) c.args.rt.now g.L.Log.was_synced c.args.saver.now.path g.N.Named.setup b
     g.N.Named.opened c.stopped_with.result)
     (sym (ap is_some c.in-Some.is)) (
       h.0,

@@ -1,9 +1,8 @@
-use Rattle.std.proofs.Common.{◌≡◌, ℕ, List, subst, sym}
+use Rattle.std.proofs.Common.{ℕ, List, subst, sym}
 use Rattle.batch_store.specs.Accepted.{entries_in}
 use Rattle.batch_store.specs.Books.{accepted_in}
 use Rattle.open_log.specs.Rotations.{begun}
 use Rattle.log_start.specs.Records.{IsLogOf}
-use Rattle.stored_log.proofs.LogLemmas.{begun_lists}
 use Rattle.stored_log.proofs.rotation.begin_stored.Goals as goal
 
 pub new-requires-clause-logged : goal.new-requires-clause-logged
@@ -16,5 +15,5 @@ new-requires-clause-logged g c =
       log = begun c.encode_head.new.page head.first;
       settled = λ t. (c.in-Ok.ensures.told (tells.1 t), c.in-Ok.ensures.settled (tells.1 t));
       lists = subst (λ (page : List ℕ). IsLogOf (begun page head.first) es) (sym c.encode_head.ensures)
-          (begun_lists head es is.within is.first is.total is.link);
+          (let told = is.log in told.log);
     }

@@ -1,12 +1,12 @@
 use Rattle.std.proofs.Common.{◌+◌, refl, ap}
-use Rattle.wire_proto.proofs.PutLemmas.{other_dimensions, sum_too_large}
+use Rattle.wire_proto.proofs.PutLemmas.{larger_dimensions, sum_too_large}
 use Rattle.wire_proto.specs.Answering.{faulty}
 use Rattle.wire_proto.proofs.texts.batch_of.Goals as goal
 
-pub returns-in-Err-DimensionsDiffer : goal.returns-in-Err-DimensionsDiffer
-returns-in-Err-DimensionsDiffer c =
-    other_dimensions _ _ c.in-Ok.file c.in-Ok.ensures.ok
-    (rw c.in-Err-DimensionsDiffer.field-0-is at c.in-Err-DimensionsDiffer.ensures.err)
+pub returns-in-Err-DimensionsTooLarge : goal.returns-in-Err-DimensionsTooLarge
+returns-in-Err-DimensionsTooLarge c =
+    larger_dimensions _ _ c.in-Ok.file c.in-Ok.ensures.ok
+    (rw c.in-Err-DimensionsTooLarge.field-0-is at c.in-Err-DimensionsTooLarge.ensures.err)
 
 pub returns-in-Ok : goal.returns-in-Ok
 returns-in-Ok c =

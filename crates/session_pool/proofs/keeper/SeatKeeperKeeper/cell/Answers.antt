@@ -1,6 +1,6 @@
 use Rattle.std.proofs.Common.{refl}
 use Rattle.batch_store.specs.Accepted.{Accepted}
-use Rattle.session_pool.specs.Saves.{IsSaved}
+use Rattle.session_pool.specs.Saves.{IsSaved, of_origin}
 use Rattle.session_pool.specs.Seats.{sight}
 use Rattle.session_pool.proofs.GivenLaws.{gives_cell}
 use Rattle.session_pool.proofs.keeper.SeatKeeperKeeper.cell.Goals as goal
@@ -10,7 +10,7 @@ returns-clause-gives g c =
     let s = c.args.self.now in (
       refl,
       gives_cell g.N.Named.setup g.N.Named.opened
-          (λ (a : Accepted). IsSaved g.R.Disk.saves s.rt.now s.saver.now.path g.N.Named.setup a) g.L.Log.was_synced
+          (λ (a : Accepted). IsSaved (of_origin g.R.Disk.saves s.saver.now.origin) s.rt.now s.saver.now.path g.N.Named.setup a) g.L.Log.was_synced
           g.L.Log.has_failed g.L.Log.was_full (sight s.seat.now s.log) c.args.row c.args.col c.cell.result
           c.cell.ensures.some,
     )

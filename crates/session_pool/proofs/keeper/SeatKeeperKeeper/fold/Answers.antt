@@ -1,7 +1,7 @@
 use Rattle.std.proofs.Common.{◌≡◌, ◌≤◌, length, refl, ◌∙◌, ap, arith, rules}
 use Rattle.plain_engine.specs.declared.status.Status.{Status}
 use Rattle.batch_store.specs.Accepted.{Accepted}
-use Rattle.session_pool.specs.Saves.{IsSaved}
+use Rattle.session_pool.specs.Saves.{IsSaved, of_origin}
 use Rattle.session_pool.specs.Seats.{sight}
 use Rattle.session_pool.proofs.GivenLaws.{gives_folded}
 use Rattle.session_pool.proofs.keeper.SeatKeeperKeeper.fold.Goals as goal
@@ -15,7 +15,7 @@ returns-in-Some-clause-gives g c =
     let enough : c.status-shown.result.batches ≤ c.in-Some.folded = search rules in (
       refl,
       gives_folded g.N.Named.setup g.N.Named.opened
-          (λ (a : Accepted). IsSaved g.R.Disk.saves s.rt.now s.saver.now.path g.N.Named.setup a) g.L.Log.was_synced
+          (λ (a : Accepted). IsSaved (of_origin g.R.Disk.saves s.saver.now.origin) s.rt.now s.saver.now.path g.N.Named.setup a) g.L.Log.was_synced
           g.L.Log.has_failed g.L.Log.was_full (sight s.seat.now s.log) (sight c.folded.new.seat c.fold_now-done.new.log)
           c.in-Some.folded c.fold_now-done.ensures.grows e.number e.later e.first e.folded (omega (arith, shown, enough)),
     )

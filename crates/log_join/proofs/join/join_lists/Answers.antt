@@ -1,10 +1,10 @@
-use Rattle.std.proofs.Common.{◌≡◌, ◌∙◌, List, length, sym, ap, subst, arith}
+use Rattle.std.proofs.Common.{length}
 use Rattle.std.proofs.lemmas.Result.{err_from_is_err_and}
 use Rattle.batch_store.specs.Batches.{values}
 use Rattle.log_join.specs.Joins.{known_entries}
-use Rattle.log_join.proofs.JoinLemmas.{beside_of, place_of, joins_shared, joins_by, new_dims, new_is, refused_by}
+use Rattle.log_join.proofs.JoinLemmas.{beside_of, place_of, joins_shared, joins_by, new_fit, new_is, refused_by}
 use Rattle.log_join.proofs.JoinLemmas.{if_ok_all, if_err_map}
-use Rattle.log_join.proofs.join.join_log.Goals as goal
+use Rattle.log_join.proofs.join.join_lists.Goals as goal
 
 pub returns-in_err-judge_head-clause-err : goal.returns-in_err-judge_head-clause-err
 returns-in_err-judge_head-clause-err c =
@@ -24,9 +24,9 @@ returns-then-shared-batches-clause-ok c =
     part.ensures.logged part.ensures.all c.in_ok-judge_shared.ensures.ok)
     c.count_of-count.ensures part.ensures.listed c.if-shared-batches.true c.requires.accepted
 
-pub append_new-requires-clause-dims : goal.append_new-requires-clause-dims
-append_new-requires-clause-dims c =
-    new_dims c.args.setup.now c.args.head.now.setup c.args.batches.now c.behind-new.result.now c.shared_of-shared.result
+pub append_new-requires-clause-fit : goal.append_new-requires-clause-fit
+append_new-requires-clause-fit c =
+    new_fit c.args.setup.now c.args.head.now.setup c.args.batches.now c.behind-new.result.now c.shared_of-shared.result
     c.in_ok-judge_head.ensures.ok.setup c.behind-new.ensures c.requires.dims
 
 pub returns-clause-ok : goal.returns-clause-ok

@@ -1,0 +1,171 @@
+//! What was accepted under one setup, for a setup of other numbers.
+ghost use Rattle.std.specs.Prelude.{◌≡◌, ℕ, ◌+◌, ◌<◌, ◌≤◌, ◌^◌, IfOk, IfErr, OnOk};
+ghost use Rattle.std.specs.Arc.{arc_value};
+ghost use Rattle.hyper_matrix.specs.Matrix.{matrix};
+ghost use Rattle.batch_store.specs.Accepted.{count_in, total_in};
+ghost use Rattle.batch_store.specs.Batches.{values};
+ghost use Rattle.batch_store.specs.Books.{AreAccepted, accepted_in, list_total};
+ghost use Rattle.batch_store.specs.Growth.{AllLieIn, IsRoomFor, RefusesGrowth, all_widened, grown_to, widened};
+
+use crate::batch::Batch;
+use crate::book_list::BookList;
+use crate::fault::GrowthFault;
+use crate::setup::Setup;
+use hyper_matrix::Hyper;
+use std::alloc::{AllocError, Global};
+use std::sync::Arc;
+
+impl Batch {
+    /// The same batch in a matrix of the setup's dimensions, none of which is smaller. The two matrices share all
+    /// blocks: the time and memory are those of a pointer for each.
+    ///
+    /// # Errors
+    ///
+    /// A growth was refused.
+    pub fn widened(&self, alloc: Global, setup: &Setup) -> Result<Arc<Batch>, AllocError>
+        requires rows { self.now.matrix.rows ≤ setup.now.rows }
+        requires cols { self.now.matrix.cols ≤ setup.now.cols }
+        ensures { IfOk result (λ b. arc_value b ≡ widened setup.now self.now) }
+    {
+        let same = self.matrix.copy(alloc)?;
+        let matrix = same.widened(setup.rows(), setup.cols());
+        let batch = Batch {
+            client: self.client,
+            number: self.number,
+            matrix,
+            total: self.total,
+        };
+        let shared = Arc::new(alloc, batch)?;
+        Ok(shared)
+    }
+}
+
+// A base in a matrix of the setup's dimensions.
+fn widened_base(alloc: Global, setup: &Setup, base: &Hyper) -> Result<Arc<Hyper>, AllocError>
+    requires rows { base.now.rows ≤ setup.now.rows }
+    requires cols { base.now.cols ≤ setup.now.cols }
+    ensures { IfOk result (λ m. arc_value m ≡ matrix setup.now.rows setup.now.cols base.now.counts) }
+{
+    let same = base.copy(alloc)?;
+    let wide = same.widened(setup.rows(), setup.cols());
+    let shared = Arc::new(alloc, wide)?;
+    Ok(shared)
+}
+
+// Batches in matrices of the setup's dimensions.
+fn widen_all(
+    alloc: Global,
+    setup: &Setup,
+    batches: &[Arc<Batch>],
+) -> Result<Vec<Arc<Batch>>, AllocError>
+    requires { AllLieIn setup.now (values batches.now) }
+    ensures { IfOk result (λ list. values list.items ≡ all_widened setup.now (values batches.now)) }
+{
+    let mut list = Vec::new(alloc);
+    list.reserve(batches.len())?;
+    'batches: for batch in batches {
+        let wide = batch.widened(alloc, setup)?;
+        list.push(wide)?;
+    }
+    Ok(list)
+}
+
+// The total of batches, added to this one.
+fn add_totals(start: u64, batches: &[Arc<Batch>]) -> u64
+    requires { start + list_total (values batches.now) < 2 ^ 64 }
+    ensures { result ≡ start + list_total (values batches.now) }
+{
+    let mut total = start;
+    'batches: for batch in batches {
+        total += batch.entry().total;
+    }
+    total
+}
+
+// The accepted total of a list.
+fn total_of(list: &BookList) -> u64
+    requires { total_in (accepted_in list.now) < 2 ^ 64 }
+    ensures { result ≡ total_in (accepted_in list.now) }
+{
+    add_totals(list.base.total(), &list.batches)
+}
+
+// How many batches a list has, folded or not.
+fn count_of(list: &BookList) -> u64
+    ensures { result ≡ count_in (accepted_in list.now) }
+{
+    list.folded.len() as u64 + list.batches.len() as u64
+}
+
+// Whether what a list has is accepted under the second setup too.
+fn judge_growth(list: &BookList, from: &Setup, to: &Setup) -> Result<(), GrowthFault>
+    requires { AreAccepted from.now (accepted_in list.now) }
+    ensures ok { OnOk result (IsRoomFor to.now from.now (accepted_in list.now)) }
+    ensures err { IfErr result (RefusesGrowth to.now from.now (accepted_in list.now)) }
+{
+    // It bounds the total.
+    let _limit = from.limit();
+    let (rows, cols) = (from.rows(), from.cols());
+    if to.rows() < rows {
+        return Err(GrowthFault::Rows { has: rows });
+    }
+    if to.cols() < cols {
+        return Err(GrowthFault::Cols { has: cols });
+    }
+    let total = total_of(list);
+    if to.limit() < total {
+        return Err(GrowthFault::Limit { has: total });
+    }
+    let count = count_of(list);
+    if to.max_batches() < count {
+        return Err(GrowthFault::Batches { has: count });
+    }
+    Ok(())
+}
+
+// A list in matrices of the setup's dimensions.
+fn widen_list(alloc: Global, setup: &Setup, list: BookList) -> Result<BookList, AllocError>
+    requires rows { list.base.rows ≤ setup.now.rows }
+    requires cols { list.base.cols ≤ setup.now.cols }
+    requires fit { AllLieIn setup.now list.list }
+    ensures { IfOk result (λ wide. wide ≡ grown_to setup.now list) }
+{
+    let base = widened_base(alloc, setup, &list.base)?;
+    let batches = widen_all(alloc, setup, &list.batches)?;
+    Ok(BookList {
+        base,
+        folded: list.folded,
+        batches,
+    })
+}
+
+impl BookList {
+    /// The same list for a setup of other numbers: the same clients, numbers and counts in the same order, in matrices
+    /// of the second setup's dimensions. `from` is the setup that accepted the list.
+    ///
+    /// Where the dimensions are the same nothing is copied. Else the matrices share their blocks with those of the
+    /// list, which takes the time and memory of a pointer for each block.
+    ///
+    /// # Errors
+    ///
+    /// The first fault that holds, in the order of `GrowthFault`, each with what the list has. `Memory` only where none
+    /// holds. The list is gone then.
+    pub fn grown(self, alloc: Global, from: &Setup, to: &Setup) -> Result<BookList, GrowthFault>
+        requires accepted { AreAccepted from.now (accepted_in self) }
+        requires rows { self.base.rows ≡ from.now.rows }
+        requires cols { self.base.cols ≡ from.now.cols }
+        ensures list { IfOk result (λ list. list ≡ grown_to to.now self) }
+        ensures accepted { IfOk result (λ list. AreAccepted to.now (accepted_in list)) }
+        ensures room { OnOk result (IsRoomFor to.now from.now (accepted_in self)) }
+        ensures err { IfErr result (RefusesGrowth to.now from.now (accepted_in self)) }
+    {
+        judge_growth(&self, from, to)?;
+        if to.rows() == from.rows() && to.cols() == from.cols() {
+            return Ok(self);
+        }
+        match widen_list(alloc, to, self) {
+            Ok(list) => Ok(list),
+            Err(_) => Err(GrowthFault::Memory),
+        }
+    }
+}
