@@ -7,6 +7,7 @@ use Rattle.socket_server.specs.declared.fault.ServerFault.{ServerFault}
 use Rattle.socket_server.specs.declared.fault.ServerFault.TheVariants.{Memory, BadWorkers, NoAddress, SamePath}
 use Rattle.socket_server.specs.declared.fault.ServerFault.TheVariants.{BadSnapshotPath, BadLogPath, NeedsLog}
 use Rattle.socket_server.specs.declared.fault.ServerFault.TheVariants.{BadCompactors, SnapshotDiffers, File, Log, RecordsDiffer}
+use Rattle.socket_server.specs.declared.fault.ServerFault.TheVariants.{LogDiffers, NeedsNumber}
 
 abbrev pub server_status : ServerFault → ℕ
 server_status BadWorkers = 2
@@ -15,7 +16,9 @@ server_status BadSnapshotPath = 2
 server_status BadLogPath = 2
 server_status SamePath = 2
 server_status BadCompactors = 2
-server_status SnapshotDiffers = 2
+server_status (SnapshotDiffers misfit) = 2
+server_status (LogDiffers misfit) = 2
+server_status (NeedsNumber number) = 2
 server_status (NeedsLog snapshot) = 2
 server_status (File fault) = file_status fault
 server_status (Log fault) = log_status fault

@@ -9,13 +9,20 @@ use batch_store::Setup;
 use clap::ArgMatches;
 use event_log::{EventLog, Paths};
 use snap_file::{FileFault, SnapFault, folder_of};
-use socket_server::{ServerFault, Settings, is_reserved};
+use socket_server::{GivenNumbers, ServerFault, Settings, is_reserved};
 use std::alloc::{AllocError, Global};
 use std::fs::{self, File};
 use std::num::NonZeroU64;
 use std::os::unix::fs::MetadataExt;
 use std::rt::Files;
 use std::sync::Arc;
+
+/// The cuts, the shards and the most batches of a server where neither an option nor a file says them.
+const DEFAULT_CUTS: &str = "4096,65536,1048576";
+
+const DEFAULT_SHARDS: u64 = 8;
+
+const DEFAULT_BATCHES: u64 = 1_000_000;
 
 /// The status that a server's fault ends the program with: 2 for settings, 3 for what a snapshot or a log says, 4 for a
 /// device, an address or a thread, 5 for memory, 6 for records that differ.
@@ -29,7 +36,9 @@ pub fn status_of(fault: &ServerFault) -> u8
         ServerFault::BadLogPath => 2,
         ServerFault::SamePath => 2,
         ServerFault::BadCompactors => 2,
-        ServerFault::SnapshotDiffers => 2,
+        ServerFault::SnapshotDiffers(_) => 2,
+        ServerFault::LogDiffers(_) => 2,
+        ServerFault::NeedsNumber(_) => 2,
         ServerFault::NeedsLog(_) => 2,
         ServerFault::File(FileFault::Snap(SnapFault::Read)) => 4,
         ServerFault::File(FileFault::Snap(_)) => 3,
@@ -73,15 +82,36 @@ fn word_of(alloc: Global, matches: &ArgMatches, name: &str) -> Result<Option<Str
     }
 }
 
-// The engine's setup that the options spell.
-fn setup_of(alloc: Global, matches: &ArgMatches) -> Result<Setup, Fault> {
-    let rows = number_of(matches, "rows")?;
-    let cols = number_of(matches, "cols")?;
-    let shards = number_of(matches, "shards")?;
-    let limit = number_of(matches, "limit")?;
-    let max_batches = number_of(matches, "max-batches")?;
-    let cuts = read_list(alloc, matches.get_str("cuts").unwrap_or(""))?;
-    Ok(Setup::new(rows, cols, &cuts, shards, limit, max_batches)?)
+// The number of an option, or where it is left out this one.
+fn number_or(matches: &ArgMatches, name: &str, default: u64) -> Result<u64, Fault> {
+    match matches.get_str(name) {
+        Some(_) => number_of(matches, name),
+        None => Ok(default),
+    }
+}
+
+// Whether an option is given.
+fn is_given(matches: &ArgMatches, name: &str) -> bool {
+    matches.get_str(name).is_some()
+}
+
+// The numbers of the engine's setup that the options spell. Of rows and columns that aren't given nothing is read.
+fn numbers_of(alloc: Global, matches: &ArgMatches) -> Result<GivenNumbers, Fault> {
+    let rows = number_or(matches, "rows", 1)?;
+    let cols = number_or(matches, "cols", 1)?;
+    let shards = number_or(matches, "shards", DEFAULT_SHARDS)?;
+    let limit = number_or(matches, "limit", u64::MAX)?;
+    let max_batches = number_or(matches, "max-batches", DEFAULT_BATCHES)?;
+    let cuts = read_list(alloc, matches.get_str("cuts").unwrap_or(DEFAULT_CUTS))?;
+    Ok(GivenNumbers {
+        setup: Setup::new(rows, cols, &cuts, shards, limit, max_batches)?,
+        rows: is_given(matches, "rows"),
+        cols: is_given(matches, "cols"),
+        cuts: is_given(matches, "cuts"),
+        shards: is_given(matches, "shards"),
+        limit: is_given(matches, "limit"),
+        max_batches: is_given(matches, "max-batches"),
+    })
 }
 
 // Where what happens is noted, if that is asked for.
@@ -134,11 +164,11 @@ pub fn settings_of(alloc: Global, matches: &ArgMatches) -> Result<Settings, Faul
     let idle = limit_of(matches, "idle")?;
     let drain = limit_of(matches, "drain")?;
     let lock_wait = limit_of(matches, "lock-wait")?;
-    let setup = setup_of(alloc, matches)?;
+    let numbers = numbers_of(alloc, matches)?;
     Ok(Settings {
         tcp: word_of(alloc, matches, "tcp")?,
         unix: word_of(alloc, matches, "unix")?,
-        setup,
+        numbers,
         workers,
         compactors,
         snapshot: word_of(alloc, matches, "snapshot")?,

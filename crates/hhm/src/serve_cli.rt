@@ -25,6 +25,11 @@ LogFailed) and the server goes on; after LogFailed a save makes it take batches
 again. Without --snapshot 'stopped' counts what is durable in the log, and a
 line says how many accepted batches aren't.
 
+Numbers of rows, columns, cuts, shards and limits that aren't given are those of
+the snapshot, or where there is none of the log. Given ones may differ: rows and
+columns may be more, the limits any that what was accepted fits, cuts and shards
+any. Both files then say so before the server listens.
+
 As long as it runs it holds the lock of the file PATH.lock, so that no second
 server and no 'hhm fold' saves there ('hhm: file: Busy'), and that of the log's
 path ('hhm: log: Busy'). It waits for the time of --lock-wait while another has
@@ -38,6 +43,9 @@ after a Stop is over.
 A fault is one line on standard error:
 
   hhm: settings: NAME              status 2
+  hhm: settings: SnapshotDiffers (NUMBER: the file has N, N was given)   status 2
+  hhm: settings: LogDiffers (NUMBER: the file has N, N was given)   status 2
+  hhm: settings: NeedsNumber (NUMBER: no file says it)   status 2
   hhm: settings: NeedsLog (PATH: a log goes with it)   status 2
   hhm: snapshot: KIND              status 3 (KIND Read: 4)
   hhm: file: KIND                  status 4
@@ -58,7 +66,6 @@ struct ServeOption {
     name: &'static str,
     value: &'static str,
     default: Option<&'static str>,
-    required: bool,
     /// Whether an empty word is refused, as the name of a file that is none.
     is_path: bool,
     help: &'static str,
@@ -69,7 +76,6 @@ const LEFT_OUT: ServeOption = ServeOption {
     name: "",
     value: "",
     default: None,
-    required: false,
     is_path: false,
     help: "",
 };
@@ -128,43 +134,37 @@ static OPTIONS: &[ServeOption] = &[
     ServeOption {
         name: "rows",
         value: "N",
-        required: true,
-        help: "The number of rows, 1 to 1152921504606846976",
+        help: "The number of rows, 1 to 1152921504606846976; where files say it, no fewer",
         ..LEFT_OUT
     },
     ServeOption {
         name: "cols",
         value: "N",
-        required: true,
-        help: "The number of columns, 1 to 1152921504606846976",
+        help: "The number of columns, 1 to 1152921504606846976; where files say it, no fewer",
         ..LEFT_OUT
     },
     ServeOption {
         name: "cuts",
         value: "LIST",
-        default: Some("4096,65536,1048576"),
-        help: "The cuts of each shard's layers, rising, at most 7, with commas between; or none",
+        help: "The cuts of each shard's layers, rising, at most 7, or none [default: 4096,65536,1048576]",
         ..LEFT_OUT
     },
     ServeOption {
         name: "shards",
         value: "N",
-        default: Some("8"),
-        help: "The number of shards, 1 to 64",
+        help: "The number of shards, 1 to 64 [default: 8]",
         ..LEFT_OUT
     },
     ServeOption {
         name: "limit",
         value: "N",
-        default: Some("18446744073709551615"),
-        help: "The highest accepted total, at least 1",
+        help: "The highest accepted total, at least 1 [default: 18446744073709551615]",
         ..LEFT_OUT
     },
     ServeOption {
         name: "max-batches",
         value: "N",
-        default: Some("1000000"),
-        help: "The highest number of accepted batches, 1 to 1073741824",
+        help: "The highest number of accepted batches, 1 to 1073741824 [default: 1000000]",
         ..LEFT_OUT
     },
     ServeOption {
@@ -228,7 +228,6 @@ fn arg_of<'a>(alloc: Global, option: &'a ServeOption) -> Arg<'a> {
     let arg = Arg::new(alloc, option.name)
         .long(option.name)
         .value_name(option.value)
-        .required(option.required)
         .help(option.help);
     let arg = if option.is_path {
         arg.value_parser(ValueParser::NonEmptyString)

@@ -10,7 +10,6 @@ use Rattle.socket_server.specs.Faults.{IsLoadFault, IsMet, IsMetServing, MayEnd,
 use Rattle.batch_store.specs.Books.{Listing}
 use Rattle.log_start.specs.declared.fault.StartFault.{StartFault}
 use Rattle.log_start.specs.declared.owner.LogOwner.{LogOwner}
-use Rattle.snap_file.specs.declared.origin.Identity.{Identity}
 use Rattle.snap_file.specs.declared.fault.SnapFault.TheVariants as snap
 use Rattle.socket_server.specs.Starts.{IsLoadTold, IsLockTold, IsLogTold, needs_file}
 use Rattle.socket_server.specs.Ends.{IsShort, stopped}
@@ -22,6 +21,9 @@ use Rattle.socket_server.specs.declared.fault.ServerFault.TheVariants.{SnapshotD
 use Rattle.socket_server.specs.declared.fault.ServerFault.TheVariants.{RecordsDiffer, Save, LastLog, Output}
 use Rattle.socket_server.specs.declared.fault.ServerFault.TheVariants.{BadSnapshotPath, BadLogPath, NotDurable}
 use Rattle.socket_server.specs.declared.fault.ServerFault.TheVariants.{NeedsLog, NoLog, NoRandom}
+use Rattle.socket_server.specs.declared.fault.ServerFault.TheVariants.{LogDiffers, NeedsNumber}
+use Rattle.socket_server.specs.declared.given.GivenNumbers.{GivenNumbers}
+use Rattle.socket_server.specs.declared.log_host.LogOrigin.{LogOrigin}
 
 pub serving_met : (must_load : Bool) (f : ServerFault) → IsMetServing f → IsMet must_load f
 serving_met must_load Memory m = m
@@ -31,7 +33,9 @@ serving_met must_load SamePath m = absurd m
 serving_met must_load BadCompactors m = absurd m
 serving_met must_load BadSnapshotPath m = absurd m
 serving_met must_load BadLogPath m = absurd m
-serving_met must_load SnapshotDiffers m = absurd m
+serving_met must_load (SnapshotDiffers misfit) m = absurd m
+serving_met must_load (LogDiffers misfit) m = absurd m
+serving_met must_load (NeedsNumber number) m = absurd m
 serving_met must_load (NeedsLog snapshot) m = absurd m
 serving_met must_load (NoLog log snapshot) m = absurd m
 serving_met must_load NoRandom m = absurd m
@@ -46,7 +50,7 @@ serving_met must_load (Output fault) m = m
 serving_met must_load (NotDurable batches) m = absurd m
 
 pub serving_told : {H Z : Type 0} (loads : H → List ℕ → ℕ → Result Saved FileFault → Type 0)
-    (locks : H → List ℕ → Result Bool FileFault → Type 0) (h : H) (path : Option (String Z)) (v : Setting)
+    (locks : H → List ℕ → Result Bool FileFault → Type 0) (h : H) (path : Option (String Z)) (v : GivenNumbers)
     (f : ServerFault) → IsMetServing f → IsLoadTold loads locks h path v f
 serving_told loads locks h path v Memory m = tt
 serving_told loads locks h path v BadWorkers m = tt
@@ -55,7 +59,9 @@ serving_told loads locks h path v SamePath m = absurd m
 serving_told loads locks h path v BadCompactors m = absurd m
 serving_told loads locks h path v BadSnapshotPath m = absurd m
 serving_told loads locks h path v BadLogPath m = absurd m
-serving_told loads locks h path v SnapshotDiffers m = absurd m
+serving_told loads locks h path v (SnapshotDiffers misfit) m = absurd m
+serving_told loads locks h path v (LogDiffers misfit) m = absurd m
+serving_told loads locks h path v (NeedsNumber number) m = absurd m
 serving_told loads locks h path v (NeedsLog snapshot) m = absurd m
 serving_told loads locks h path v (NoLog log snapshot) m = absurd m
 serving_told loads locks h path v NoRandom m = absurd m
@@ -87,7 +93,9 @@ any_met must_load BadSnapshotPath m = m
 any_met must_load BadLogPath m = m
 any_met must_load SamePath m = m
 any_met must_load BadCompactors m = m
-any_met must_load SnapshotDiffers m = m
+any_met must_load (SnapshotDiffers misfit) m = m
+any_met must_load (LogDiffers misfit) m = m
+any_met must_load (NeedsNumber number) m = m
 any_met must_load (NeedsLog snapshot) m = m
 any_met must_load (NoLog log snapshot) m = m
 any_met must_load NoRandom m = m
@@ -116,7 +124,9 @@ ending P Q BadSnapshotPath n s m = s m
 ending P Q BadLogPath n s m = s m
 ending P Q SamePath n s m = s m
 ending P Q BadCompactors n s m = s m
-ending P Q SnapshotDiffers n s m = s m
+ending P Q (SnapshotDiffers misfit) n s m = s m
+ending P Q (LogDiffers misfit) n s m = s m
+ending P Q (NeedsNumber number) n s m = s m
 ending P Q (NeedsLog snapshot) n s m = s m
 ending P Q (NoLog log snapshot) n s m = s m
 ending P Q NoRandom n s m = s m
@@ -138,7 +148,9 @@ met_ending must_load BadSnapshotPath m = m
 met_ending must_load BadLogPath m = m
 met_ending must_load SamePath m = m
 met_ending must_load BadCompactors m = m
-met_ending must_load SnapshotDiffers m = m
+met_ending must_load (SnapshotDiffers misfit) m = m
+met_ending must_load (LogDiffers misfit) m = m
+met_ending must_load (NeedsNumber number) m = m
 met_ending must_load (NeedsLog snapshot) m = m
 met_ending must_load (NoLog log snapshot) m = m
 met_ending must_load NoRandom m = m
@@ -169,7 +181,7 @@ never_met {T} must_load r f X never met x = (
 )
 
 pub ending_told : {H Z : Type 0} (loads : H → List ℕ → ℕ → Result Saved FileFault → Type 0)
-    (locks : H → List ℕ → Result Bool FileFault → Type 0) (h : H) (path : Option (String Z)) (v : Setting)
+    (locks : H → List ℕ → Result Bool FileFault → Type 0) (h : H) (path : Option (String Z)) (v : GivenNumbers)
     (f : ServerFault) → MayEnd IsMetServing f → IsLoadTold loads locks h path v f
 ending_told loads locks h path v f m =
     ending IsMetServing (IsLoadTold loads locks h path v) f (λ n. tt) (serving_told loads locks h path v f) m
@@ -184,7 +196,9 @@ no_log_told locks h path SamePath n = tt
 no_log_told locks h path BadCompactors n = tt
 no_log_told locks h path BadSnapshotPath n = tt
 no_log_told locks h path BadLogPath n = tt
-no_log_told locks h path SnapshotDiffers n = tt
+no_log_told locks h path (SnapshotDiffers misfit) n = tt
+no_log_told locks h path (LogDiffers misfit) n = absurd n
+no_log_told locks h path (NeedsNumber number) n = tt
 no_log_told locks h path (NeedsLog snapshot) n = tt
 no_log_told locks h path (NoLog log snapshot) n = absurd n
 no_log_told locks h path NoRandom n = tt
@@ -200,7 +214,7 @@ no_log_told locks h path (NotDurable batches) n = tt
 
 -- what tells nothing of the snapshot's file was met by no load
 pub no_file_told : {H Z : Type 0} (loads : H → List ℕ → ℕ → Result Saved FileFault → Type 0)
-    (locks : H → List ℕ → Result Bool FileFault → Type 0) (h : H) (path : Option (String Z)) (v : Setting)
+    (locks : H → List ℕ → Result Bool FileFault → Type 0) (h : H) (path : Option (String Z)) (v : GivenNumbers)
     (f : ServerFault) → TellsNoFile f → IsLoadTold loads locks h path v f
 no_file_told loads locks h path v Memory n = tt
 no_file_told loads locks h path v BadWorkers n = tt
@@ -209,7 +223,9 @@ no_file_told loads locks h path v SamePath n = tt
 no_file_told loads locks h path v BadCompactors n = tt
 no_file_told loads locks h path v BadSnapshotPath n = tt
 no_file_told loads locks h path v BadLogPath n = tt
-no_file_told loads locks h path v SnapshotDiffers n = absurd n
+no_file_told loads locks h path v (SnapshotDiffers misfit) n = absurd n
+no_file_told loads locks h path v (LogDiffers misfit) n = tt
+no_file_told loads locks h path v (NeedsNumber number) n = tt
 no_file_told loads locks h path v (NeedsLog snapshot) n = absurd n
 no_file_told loads locks h path v (NoLog log snapshot) n = tt
 no_file_told loads locks h path v NoRandom n = tt
@@ -231,7 +247,9 @@ serving_no_log SamePath m = tt
 serving_no_log BadCompactors m = tt
 serving_no_log BadSnapshotPath m = tt
 serving_no_log BadLogPath m = tt
-serving_no_log SnapshotDiffers m = tt
+serving_no_log (SnapshotDiffers misfit) m = tt
+serving_no_log (LogDiffers misfit) m = absurd m
+serving_no_log (NeedsNumber number) m = tt
 serving_no_log (NeedsLog snapshot) m = absurd m
 serving_no_log (NoLog log snapshot) m = absurd m
 serving_no_log NoRandom m = absurd m
@@ -248,30 +266,33 @@ serving_no_log (NotDurable batches) m = absurd m
 -- a fault of the log's lock is told as one of the log
 pub lock_log_told : {H Y Z : Type 0} (loads : H → List ℕ → ℕ → Result Saved FileFault → Type 0)
     (locks : H → List ℕ → Result Bool FileFault → Type 0)
-    (starts : H → List ℕ → Setting → LogOwner → Listing → Result (Listing × Identity) StartFault → Type 0) (h : H)
+    (heads : H → List ℕ → Result (Option Setting) StartFault → Type 0)
+    (starts : H → List ℕ → Setting → LogOwner → Listing → Result (Listing × LogOrigin) StartFault → Type 0) (h : H)
     (path : Option (String Y))
-    (log : Option (String Z)) (must_load : Bool) (v : Setting) (f : ServerFault) → IsLockTold locks h log f →
-    IsLogTold loads locks starts h path log must_load v f
-lock_log_told loads locks starts h path log must_load v f told = inl told
+    (log : Option (String Z)) (must_load : Bool) (v : GivenNumbers) (f : ServerFault) → IsLockTold locks h log f →
+    IsLogTold loads locks heads starts h path log must_load v f
+lock_log_told loads locks heads starts h path log must_load v f told = inl told
 
 pub serving_log_told : {H Y Z : Type 0} (loads : H → List ℕ → ℕ → Result Saved FileFault → Type 0)
     (locks : H → List ℕ → Result Bool FileFault → Type 0)
-    (starts : H → List ℕ → Setting → LogOwner → Listing → Result (Listing × Identity) StartFault → Type 0) (h : H)
+    (heads : H → List ℕ → Result (Option Setting) StartFault → Type 0)
+    (starts : H → List ℕ → Setting → LogOwner → Listing → Result (Listing × LogOrigin) StartFault → Type 0) (h : H)
     (path : Option (String Y))
-    (log : Option (String Z)) (must_load : Bool) (v : Setting) (f : ServerFault) → IsMetServing f →
-    IsLogTold loads locks starts h path log must_load v f
-serving_log_told loads locks starts h path log must_load v f met =
+    (log : Option (String Z)) (must_load : Bool) (v : GivenNumbers) (f : ServerFault) → IsMetServing f →
+    IsLogTold loads locks heads starts h path log must_load v f
+serving_log_told loads locks heads starts h path log must_load v f met =
     inl (no_log_told locks h log f (serving_no_log f met))
 
 pub ending_log_told : {H Y Z : Type 0} (loads : H → List ℕ → ℕ → Result Saved FileFault → Type 0)
     (locks : H → List ℕ → Result Bool FileFault → Type 0)
-    (starts : H → List ℕ → Setting → LogOwner → Listing → Result (Listing × Identity) StartFault → Type 0) (h : H)
+    (heads : H → List ℕ → Result (Option Setting) StartFault → Type 0)
+    (starts : H → List ℕ → Setting → LogOwner → Listing → Result (Listing × LogOrigin) StartFault → Type 0) (h : H)
     (path : Option (String Y))
-    (log : Option (String Z)) (must_load : Bool) (v : Setting) (f : ServerFault) → MayEnd IsMetServing f →
-    IsLogTold loads locks starts h path log must_load v f
-ending_log_told loads locks starts h path log must_load v f m =
-    ending IsMetServing (IsLogTold loads locks starts h path log must_load v) f (λ n. inl tt)
-    (serving_log_told loads locks starts h path log must_load v f) m
+    (log : Option (String Z)) (must_load : Bool) (v : GivenNumbers) (f : ServerFault) → MayEnd IsMetServing f →
+    IsLogTold loads locks heads starts h path log must_load v f
+ending_log_told loads locks heads starts h path log must_load v f m =
+    ending IsMetServing (IsLogTold loads locks heads starts h path log must_load v) f (λ n. inl tt)
+    (serving_log_told loads locks heads starts h path log must_load v f) m
 
 -- that batches aren't durable is told by a server that ends alone
 pub met_short : (must_load : Bool) (ends : Stopped → Type 0) (f : ServerFault) → IsMet must_load f → IsShort ends f
@@ -282,7 +303,9 @@ met_short must_load ends BadSnapshotPath m = tt
 met_short must_load ends BadLogPath m = tt
 met_short must_load ends SamePath m = tt
 met_short must_load ends BadCompactors m = tt
-met_short must_load ends SnapshotDiffers m = tt
+met_short must_load ends (SnapshotDiffers misfit) m = tt
+met_short must_load ends (LogDiffers misfit) m = tt
+met_short must_load ends (NeedsNumber number) m = tt
 met_short must_load ends (NeedsLog snapshot) m = tt
 met_short must_load ends (NoLog log snapshot) m = tt
 met_short must_load ends NoRandom m = tt
@@ -307,7 +330,9 @@ one_short P Q BadSnapshotPath w h = tt
 one_short P Q BadLogPath w h = tt
 one_short P Q SamePath w h = tt
 one_short P Q BadCompactors w h = tt
-one_short P Q SnapshotDiffers w h = tt
+one_short P Q (SnapshotDiffers misfit) w h = tt
+one_short P Q (LogDiffers misfit) w h = tt
+one_short P Q (NeedsNumber number) w h = tt
 one_short P Q (NeedsLog snapshot) w h = tt
 one_short P Q (NoLog log snapshot) w h = tt
 one_short P Q NoRandom w h = tt

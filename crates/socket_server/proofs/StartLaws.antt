@@ -1,10 +1,10 @@
--- What a host has answered to a load and to a start of the log, in the words of the server.
-use Rattle.std.proofs.Common.{◌≡◌, ◌≢◌, ◌⊎◌, inl, inr, ℕ, List, [], refl, sym, ap, ◌∙◌, subst}
-use Rattle.std.specs.Prelude.{Bool, true, false, Option, Some, None, Result, Ok, Err, IfOk, IfErr, IfSome, is_some}
+-- What a host has answered to a load, to a look at a log's head and to a start of the log, in the words of the server.
+use Rattle.std.proofs.Common.{◌≡◌, ◌≢◌, ◌⊎◌, inl, inr, ℕ, List, refl, sym, ap, ◌∙◌, subst}
+use Rattle.std.specs.Prelude.{Bool, true, false, Option, Some, None, Result, Ok, IfSome, IsSomeAnd, is_some}
 use Rattle.std.specs.Prelude.{String, string_bytes}
 use Rattle.hyper_matrix.specs.Matrix.{matrix}
 use Rattle.batch_store.specs.declared.verdict.Entry.{Entry}
-use Rattle.batch_store.specs.Accepted.{Accepted, unfolded}
+use Rattle.batch_store.specs.Accepted.{Accepted}
 use Rattle.batch_store.specs.Books.{Listing, listing, accepted_in, listed_in}
 use Rattle.batch_store.specs.Setups.{Setting}
 use Rattle.log_start.specs.declared.fault.StartFault.{StartFault}
@@ -14,18 +14,34 @@ use Rattle.snap_file.specs.declared.origin.Identity.{Identity}
 use Rattle.snap_file.specs.declared.origin.Origin.{Origin}
 use Rattle.snap_file.specs.Snapshots.{Saved, saved, HasBase}
 use Rattle.snap_file.specs.declared.fault.FileFault.{FileFault}
-use Rattle.snap_file.specs.declared.fault.FileFault.TheVariants as file
 use Rattle.std.specs.declared.alloc.Global.{Global}
+use Rattle.socket_server.specs.Growth.{IsDimMisfit, IsGrown, IsGrowthMisfit, IsHeadMisfit, IsMisfit, IsPlan, given_over}
+use Rattle.socket_server.specs.Growth.{with_dims}
 use Rattle.socket_server.specs.declared.fault.ServerFault.{ServerFault}
-use Rattle.socket_server.specs.declared.fault.ServerFault.TheVariants.{Log, Memory, NeedsLog, SnapshotDiffers}
-use Rattle.socket_server.specs.Starts.{HasLoaded, IsLoaded, IsJoined, IsMarked, IsMarkedLog, StartsFrom, IsLoadTold}
-use Rattle.socket_server.specs.Starts.{IsStartTold, IsStepFault, IsLogTold, asks_log, identity_in, most_bytes, needs_file}
-use Rattle.socket_server.specs.Starts.{owner_of}
-use Rattle.socket_server.specs.declared.start.Loaded.{Loaded}
+use Rattle.socket_server.specs.declared.fault.ServerFault.TheVariants.{Log, LogDiffers, Memory, NeedsLog}
+use Rattle.socket_server.specs.declared.fault.ServerFault.TheVariants.{SnapshotDiffers}
+use Rattle.socket_server.specs.declared.given.GivenNumbers.{GivenNumbers}
+use Rattle.socket_server.specs.declared.log_host.LogOrigin.{LogOrigin}
+use Rattle.socket_server.specs.declared.misfit.Misfit.{Misfit}
+use Rattle.socket_server.specs.Starts.{HasLoaded, IsFiles, IsFilesOf, IsFound, IsJoined, IsListOf, IsLoaded}
+use Rattle.socket_server.specs.Starts.{IsLoadTold, IsLogTold, IsMarked, IsMarkedLog, IsStartTold, IsStepFault}
+use Rattle.socket_server.specs.Starts.{StartsFrom, StartsUnder, asks_log, head_identity, identity_in, most_bytes, needs_file}
+use Rattle.socket_server.specs.Starts.{origin_in, owner_of}
+use Rattle.socket_server.proofs.GivenLaws.{first_misfit, fits_itself}
 
 -- a list with the setup's dimensions is the one that tells what it tells
 pub listed_again : (v : Setting) (l : Listing) → HasBase v l → listed_in v (accepted_in l) ≡ l
 listed_again v l b = λ i. listing (matrix (sym b.rows i) (sym b.cols i) l.base.counts) l.folded l.list
+
+-- so is the snapshot that was found
+saved_again : (s : Saved) (f p q : Setting) (l : Listing) → s.setup ≡ f → p ≡ with_dims q f → HasBase p l → l ≡ s.list →
+    s ≡ saved s.origin f (listed_in f (accepted_in l))
+saved_again s f p q l same first based is =
+    let own : HasBase f l = record {
+      rows = based.rows ∙ ap (λ (v : Setting). v.rows) first;
+      cols = based.cols ∙ ap (λ (v : Setting). v.cols) first;
+    } in
+    λ i. saved s.origin (same i) ((sym is ∙ sym (listed_again f l own)) i)
 
 module _ {H Z : Type 0} (loads : H → List ℕ → ℕ → Result Saved FileFault → Type 0)
     (locks : H → List ℕ → Result Bool FileFault → Type 0) (h : H) where
@@ -36,108 +52,180 @@ module _ {H Z : Type 0} (loads : H → List ℕ → ℕ → Result Saved FileFau
       (subst (λ (b : List ℕ). loads h b most_bytes (Ok s)) told
       (subst (λ (x : Result Saved FileFault). loads h bytes most_bytes x) is answer))
 
-  -- that a snapshot differs is told only where it does
-  pub differs_told : {T : Type 0} (o : Option (String Z)) (v : Setting) (s : Saved) (r : Result T ServerFault) →
-      HasLoaded loads h o (Ok s) → IfErr r (λ f. (f ≡ SnapshotDiffers) × (s.setup ≢ v)) →
-      IfErr r (λ f. IsLoadTold loads locks h o v f)
-  differs_told o v s (Ok x) there told = tt
-  differs_told o v s (Err f) there is = subst (λ (g : ServerFault). IsLoadTold loads locks h o v g) (sym is.0)
-      (s, there, is.1)
+  -- what a snapshot has that was found is loaded, and else nothing is
+  pub is_loaded : (path : Option (String Z)) (must : Bool) (found : Option Saved) (f p q : Setting) (o : Option Origin)
+      (l : Listing) → IsFound loads h path must found → IfSome found (λ s. s.setup ≡ f) → p ≡ with_dims q f →
+      HasBase p l → IsListOf found o l → IsLoaded loads h path must f o (accepted_in l)
+  is_loaded path must (Some s) f p q o l there same first based is =
+      subst (λ (x : Option Origin). IsLoaded loads h path must f x (accepted_in l)) (sym is.1)
+      (subst (λ (x : Saved). HasLoaded loads h path (Ok x)) (saved_again s f p q l same first based is.0) there)
+  is_loaded path must None f p q o l why same first based is =
+      subst (λ (x : Option Origin). IsLoaded loads h path must f x (accepted_in l)) (sym is.1) (why, is.0)
 
-  -- what a snapshot of this setup tells is loaded, whosever it is
-  pub list_loaded : (o : Option (String Z)) (must : Bool) (v : Setting) (s : Saved) (r : Result Loaded ServerFault) →
-      HasLoaded loads h o (Ok s) → IfOk r (λ l. s ≡ saved s.origin v l.list) → IfOk r (λ l. l.origin ≡ Some s.origin) →
-      IfOk r (λ l. HasBase v l.list) → IfOk r (λ l. IsLoaded loads h o must v l.origin (accepted_in l.list))
-  list_loaded o must v s (Ok l) there is named based =
-      subst (λ (x : Option Origin). IsLoaded loads h o must v x (accepted_in l.list)) (sym named)
-      (subst (λ (x : Saved). HasLoaded loads h o (Ok x)) (is ∙ ap (saved s.origin v) (sym (listed_again v l.list based)))
-      there)
-  list_loaded o must v s (Err f) there is named based = tt
-
-  -- where there is no path, or no file and none must be, nothing is
-  pub none_loaded : (o : Option (String Z)) (must : Bool) (v : Setting) (r : Result Loaded ServerFault) →
-      (o ≡ None) ⊎ (HasLoaded loads h o (Err file.NotFound) × (must ≡ false)) →
-      IfOk r (λ l. l.list ≡ listed_in v (unfolded [])) → IfOk r (λ l. l.origin ≡ None) →
-      IfOk r (λ l. IsLoaded loads h o must v l.origin (accepted_in l.list))
-  none_loaded o must v (Ok l) why is named =
-      subst (λ (x : Option Origin). IsLoaded loads h o must v x (accepted_in l.list)) (sym named)
-      (why, ap accepted_in is)
-  none_loaded o must v (Err f) why is named = tt
+  -- under no path nothing is found
+  pub none_found : (path : Option (String Z)) (must : Bool) (found : Option Saved) → IsFound loads h path must found →
+      path ≡ None → found ≡ None
+  none_found path must None there none = refl
+  none_found (Some path) must (Some s) there none = absurd (cc none)
+  none_found None must (Some s) there none = absurd there
 
   -- that a snapshot goes with a log is told only where it does
-  pub needs_told : (o : Option (String Z)) (must : Bool) (v : Setting) (x : Option Origin) (a : Accepted)
-      (f : ServerFault) → IsLoaded loads h o must v x a →
-      (f ≡ Memory) ⊎ ((name : String Global) × (f ≡ NeedsLog name) × (asks_log x ≡ true)) →
-      IsLoadTold loads locks h o v f
-  needs_told o must v x a f loaded (inl is) =
-      subst (λ (g : ServerFault). IsLoadTold loads locks h o v g) (sym is) tt
-  needs_told o must v None a f loaded (inr told) = absurd (let h = told.2 in cc h)
-  needs_told o must v (Some x) a f loaded (inr told) =
-      subst (λ (g : ServerFault). IsLoadTold loads locks h o v g) (sym told.1) (saved x v (listed_in v a), loaded, told.2)
+  pub needs_told : (path : Option (String Z)) (must : Bool) (g : GivenNumbers) (found : Option Saved)
+      (f : ServerFault) → IsFound loads h path must found →
+      (f ≡ Memory) ⊎ ((name : String Global) × (f ≡ NeedsLog name) × (asks_log (origin_in found) ≡ true)) →
+      IsLoadTold loads locks h path g f
+  needs_told path must g found f there (inl is) =
+      subst (λ (x : ServerFault). IsLoadTold loads locks h path g x) (sym is) tt
+  needs_told path must g None f there (inr told) = absurd (let h = told.2 in cc h)
+  needs_told path must g (Some s) f there (inr told) =
+      subst (λ (x : ServerFault). IsLoadTold loads locks h path g x) (sym told.1) (s, there, told.2)
+
+  -- that it differs is told only where a number that is given is too small for it
+  pub differs_told : (path : Option (String Z)) (must : Bool) (g : GivenNumbers) (found : Option Saved) (m : Misfit)
+      (f : ServerFault) → IsFound loads h path must found → is_some found ≡ true → f ≡ SnapshotDiffers m →
+      IfSome found (λ s. IsMisfit g s m) → IsLoadTold loads locks h path g f
+  differs_told path must g None m f there some is misfit = absurd (cc some)
+  differs_told path must g (Some s) m f there some is misfit =
+      subst (λ (x : ServerFault). IsLoadTold loads locks h path g x) (sym is) (s, there, misfit)
+
+  -- and where what it has doesn't fit
+  pub growth_told : (path : Option (String Z)) (must : Bool) (g : GivenNumbers) (found : Option Saved) (p q x : Setting)
+      (f : ServerFault) → IsFound loads h path must found → IfSome found (λ s. s.setup ≡ x) → IsPlan g x p q →
+      (f ≡ Memory) ⊎ ((m : Misfit) × (f ≡ SnapshotDiffers m)
+      × IsSomeAnd found (λ s. IsGrowthMisfit s.setup p (accepted_in s.list) m)) → IsLoadTold loads locks h path g f
+  growth_told path must g found p q x f there same plan (inl is) =
+      subst (λ (y : ServerFault). IsLoadTold loads locks h path g y) (sym is) tt
+  growth_told path must g None p q x f there same plan (inr why) = absurd why.2
+  growth_told path must g (Some s) p q x f there same plan (inr why) =
+      subst (λ (y : ServerFault). IsLoadTold loads locks h path g y) (sym why.1) (
+        s,
+        there,
+        first_misfit g s.setup p q (accepted_in s.list) why.0
+            (subst (λ (v : Setting). IsPlan g v p q) (sym same) plan) why.2,
+      )
+
+-- what is known says of itself what the snapshot says that was found
+pub origin_found : (found : Option Saved) (o : Option Origin) (l : Listing) → IsListOf found o l → o ≡ origin_in found
+origin_found None o l is = is.1
+origin_found (Some s) o l is = is.1
+
+-- rows or columns that are too few for the files are so for the snapshot
+pub dims_misfit : {H Z : Type 0} (heads : H → List ℕ → Result (Option Setting) StartFault → Type 0) (h : H)
+    (log : Option (String Z)) (g : GivenNumbers) (found : Option Saved) (f : Setting) (m : Misfit) →
+    IsFiles heads h log g found f → IsHeadMisfit g f m → IfSome found (λ s. IsMisfit g s m)
+dims_misfit heads h log g None f m files misfit = tt
+dims_misfit heads h log g (Some s) f m files misfit =
+    inl (subst (λ (v : Setting). IsDimMisfit v (given_over g v) m) files misfit)
+
+-- the setup of a snapshot that was found is what the files say
+pub some_files : {H Z : Type 0} (heads : H → List ℕ → Result (Option Setting) StartFault → Type 0) (h : H)
+    (log : Option (String Z)) (g : GivenNumbers) (found : Option Saved) (f x : Setting) →
+    IsFiles heads h log g found f → x ≡ f → IfSome found (λ s. s.setup ≡ x)
+some_files heads h log g None f x files same = tt
+some_files heads h log g (Some s) f x files same = sym files ∙ sym same
+
+-- where no snapshot says the setup, the log's head does, or the numbers that are given
+pub files_of : {H Z : Type 0} (heads : H → List ℕ → Result (Option Setting) StartFault → Type 0) (h : H)
+    (log : Option (String Z)) (g : GivenNumbers) (found : Option Saved) (o : Option Origin) (f : Setting) →
+    o ≡ origin_in found → IsFiles heads h log g found f → IsFilesOf heads h log g o f
+files_of heads h log g (Some s) o f is files = subst (λ (x : Option Origin). IsFilesOf heads h log g x f) (sym is) tt
+files_of heads h log g None o f is files = subst (λ (x : Option Origin). IsFilesOf heads h log g x f) (sym is) files
 
 module _ {H Y Z : Type 0} (loads : H → List ℕ → ℕ → Result Saved FileFault → Type 0)
-    (starts : H → List ℕ → Setting → LogOwner → Listing → Result (Listing × Identity) StartFault → Type 0)
-    (saves : H → List ℕ → Origin → Setting → Accepted → Type 0) (begins : H → List ℕ → Setting → Identity → List Entry → Type 0)
-    (names : H → List ℕ → List Entry → Type 0) (h : H) (path : Option (String Y))
+    (heads : H → List ℕ → Result (Option Setting) StartFault → Type 0)
+    (starts : H → List ℕ → Setting → LogOwner → Listing → Result (Listing × LogOrigin) StartFault → Type 0)
+    (saves : H → List ℕ → Origin → Setting → Accepted → Type 0)
+    (begins : H → List ℕ → Setting → Identity → List Entry → Type 0)
+    (names : H → List ℕ → List Entry → Type 0) (h : H) (path : Option (String Y)) (log : Option (String Z))
+    (must_load : Bool) (g : GivenNumbers)
   where
-    pub starts_from : (log : Option (String Z)) (must_load : Bool) (v : Setting) (known list : Listing)
-        (o : Option Origin) (drawn j i : Identity) (a : Accepted) → has_book drawn ≡ true → HasBase v known →
-        HasBase v list → IsLoaded loads h path (needs_file must_load log) v o (accepted_in known) →
-        (log ≡ None → asks_log o ≡ false) → IsJoined starts h log v (owner_of o drawn must_load) known list j →
-        i ≡ own (identity_in o) j drawn → IsMarked saves h path v o (origin i (is_some log)) (accepted_in list) →
-        IfSome log (λ l. IsMarkedLog begins names h l v j i (accepted_in list)) → a ≡ accepted_in list →
-        StartsFrom loads starts saves begins names h path log must_load v i a
-    starts_from None must_load v known list o drawn j i a book kb lb loaded asks joined whose marked logged is = (
-      o,
-      drawn,
-      book,
-      subst (λ (x : Accepted). IsLoaded loads h path must_load v o x) (sym (is ∙ ap accepted_in joined.0)) loaded,
-      asks refl,
-      whose ∙ ap (λ (x : Identity). own (identity_in o) x drawn) joined.1,
-      subst (λ (x : Accepted). IsMarked saves h path v o (origin i false) x) (sym is) marked,
-    )
-    starts_from (Some log) must_load v known list o drawn j i a book kb lb loaded asks joined whose marked logged is = (
-      accepted_in known,
-      o,
-      drawn,
-      j,
-      book,
-      loaded,
-      subst (λ (k : Listing). IsJoined starts h (Some log) v (owner_of o drawn must_load) k (listed_in v a) j)
-          (sym (listed_again v known kb))
-          (subst (λ (l : Listing). IsJoined starts h (Some log) v (owner_of o drawn must_load) known l j)
-          (sym (ap (listed_in v) is ∙ listed_again v list lb)) joined),
-      whose,
-      subst (λ (x : Accepted). IsMarked saves h path v o (origin i true) x) (sym is) marked,
-      subst (λ (x : Accepted). IsMarkedLog begins names h log v j i x) (sym is) logged,
+    pub starts_under : (f p : Setting) (known list : Listing) (o : Option Origin) (drawn i : Identity)
+        (u : Option LogOrigin) (a : Accepted) → has_book drawn ≡ true → HasBase p known → HasBase p list →
+        IsLoaded loads h path (needs_file must_load log) f o (accepted_in known) → IsFilesOf heads h log g o f →
+        (log ≡ None → asks_log o ≡ false) → IsJoined starts h log p (owner_of o drawn must_load) known list u →
+        i ≡ own (identity_in o) (head_identity u) drawn →
+        IsMarked saves h path f p o (origin i (is_some log)) (accepted_in list) →
+        IsMarkedLog begins names h log p u i (accepted_in list) → a ≡ accepted_in list →
+        StartsUnder loads heads starts saves begins names h path log must_load g f p i a
+    starts_under f p known list o drawn i u a book kb lb loaded files asks joined whose marked logged is =
+        subst (λ (x : Accepted). StartsUnder loads heads starts saves begins names h path log must_load g f p i x)
+        (sym is) (
+          accepted_in known,
+          o,
+          drawn,
+          u,
+          book,
+          loaded,
+          files,
+          asks,
+          subst (λ (k : Listing). IsJoined starts h log p (owner_of o drawn must_load) k
+              (listed_in p (accepted_in list)) u) (sym (listed_again p known kb))
+              (subst (λ (l : Listing). IsJoined starts h log p (owner_of o drawn must_load) known l u)
+              (sym (listed_again p list lb)) joined),
+          whose,
+          marked,
+          logged,
+        )
+
+    pub starts_from : (f p q : Setting) (i : Identity) (b last a : Accepted) → IsPlan g f p q →
+        StartsUnder loads heads starts saves begins names h path log must_load g f p i b →
+        IsGrown saves begins names h path log p q (origin i (is_some log)) b last → a ≡ last →
+        StartsFrom loads heads starts saves begins names h path log must_load g q i a
+    starts_from f p q i b last a plan under grown is = (
+      f,
+      p,
+      b,
+      plan,
+      under,
+      subst (λ (x : Accepted). IsGrown saves begins names h path log p q (origin i (is_some log)) b x) (sym is) grown,
     )
 
 module _ {H Y Z : Type 0} (loads : H → List ℕ → ℕ → Result Saved FileFault → Type 0)
-    (starts : H → List ℕ → Setting → LogOwner → Listing → Result (Listing × Identity) StartFault → Type 0) (h : H)
-    (path : Option (String Y))
+    (locks : H → List ℕ → Result Bool FileFault → Type 0)
+    (heads : H → List ℕ → Result (Option Setting) StartFault → Type 0)
+    (starts : H → List ℕ → Setting → LogOwner → Listing → Result (Listing × LogOrigin) StartFault → Type 0) (h : H)
+    (path : Option (String Y)) (log : Option (String Z)) (must_load : Bool) (g : GivenNumbers)
   where
     -- a fault of a start over what was loaded is told as one
-    pub start_told : (locks : H → List ℕ → Result Bool FileFault → Type 0) (log : Option (String Z)) (must_load : Bool)
-        (v : Setting) (known : Listing) (o : Option Origin) (drawn : Identity) (f : ServerFault) → HasBase v known →
-        IsLoaded loads h path (needs_file must_load log) v o (accepted_in known) →
-        IsStartTold starts h log v (owner_of o drawn must_load) known f →
-        IsLogTold loads locks starts h path log must_load v f
-    start_told locks log must_load v known o drawn f kb loaded told = inr (
+    pub start_told : (f p q : Setting) (known : Listing) (o : Option Origin) (drawn : Identity) (fault : ServerFault) →
+        HasBase p known → IsLoaded loads h path (needs_file must_load log) f o (accepted_in known) → IsPlan g f p q →
+        IsStartTold starts h log p (owner_of o drawn must_load) known fault →
+        IsLogTold loads locks heads starts h path log must_load g fault
+    start_told f p q known o drawn fault kb loaded plan told = inr (inr (
       accepted_in known,
+      f,
+      p,
+      q,
       o,
       drawn,
+      plan,
       loaded,
-      subst (λ (k : Listing). IsStartTold starts h log v (owner_of o drawn must_load) k f) (sym (listed_again v known kb))
-          told,
-    )
+      subst (λ (k : Listing). IsStartTold starts h log p (owner_of o drawn must_load) k fault)
+          (sym (listed_again p known kb)) told,
+    ))
 
-    -- so is a step by which a log is begun anew
-    pub step_told : (log : Option (String Z)) (v : Setting) (o : LogOwner) (known list : Listing) (j : Identity)
-        (f : ServerFault) → IsJoined starts h log v o known list j → log ≢ None →
-        (f ≡ Memory) ⊎ ((step : StartFault) × (f ≡ Log step) × IsStepFault step) → IsStartTold starts h log v o known f
-    step_told log v o known list j f joined there (inl is) =
-        subst (λ (g : ServerFault). IsStartTold starts h log v o known g) (sym is) tt
-    step_told None v o known list j f joined there (inr told) = absurd (there refl)
-    step_told (Some log) v o known list j f joined there (inr told) =
-        subst (λ (g : ServerFault). IsStartTold starts h (Some log) v o known g) (sym told.1)
-        (inr (list, j, joined.1, told.2))
+    -- that the log differs is told only where a number that is given is too small for its head
+    pub log_differs_told : (found : Option Saved) (f : Setting) (m : Misfit) (fault : ServerFault) →
+        IsFiles heads h log g found f → IsHeadMisfit g f m →
+        ((is_some found ≡ true) × (fault ≡ SnapshotDiffers m)) ⊎ ((found ≡ None) × (fault ≡ LogDiffers m)) →
+        IsLogTold loads locks heads starts h path log must_load g fault
+    log_differs_told found f m fault files misfit (inl is) =
+        subst (λ (x : ServerFault). IsLogTold loads locks heads starts h path log must_load g x) (sym is.1) (inl tt)
+    log_differs_told (Some s) f m fault files misfit (inr is) = absurd (let none = is.0 in cc none)
+    log_differs_told None f m fault (inr own) misfit (inr is) =
+        absurd (fits_itself g m (subst (λ (v : Setting). IsDimMisfit v (given_over g v) m) own.1 misfit))
+    log_differs_told None f m fault (inl head) misfit (inr is) =
+        subst (λ (x : ServerFault). IsLogTold loads locks heads starts h path log must_load g x) (sym is.1)
+        (inr (inl (f, head, misfit)))
+
+-- a step by which a log is begun anew is told as one of a start
+pub step_told : {H Z : Type 0}
+    (starts : H → List ℕ → Setting → LogOwner → Listing → Result (Listing × LogOrigin) StartFault → Type 0) (h : H)
+    (log : Option (String Z)) (p : Setting) (o : LogOwner) (known list : Listing) (u : Option LogOrigin)
+    (fault : ServerFault) (step : StartFault) → IsJoined starts h log p o known list u → log ≢ None → fault ≡ Log step →
+    IsStepFault step → IsStartTold starts h log p o known fault
+step_told starts h None p o known list u fault step joined there is steps = absurd (there refl)
+step_told starts h (Some path) p o known list None fault step joined there is steps = absurd joined
+step_told starts h (Some path) p o known list (Some head) fault step joined there is steps =
+    subst (λ (x : ServerFault). IsStartTold starts h (Some path) p o known x) (sym is)
+    (inr (list, head, joined.1, steps))

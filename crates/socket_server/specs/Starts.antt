@@ -6,37 +6,52 @@
 --                     there is a snapshot and a log, and they have the same path
 --     needs_file must_load log
 --                     whether the snapshot must be there: with a log it needn't, since the log may be
---     IsLoaded loads h path must v o a
---                     this is accepted before a log is read: nothing where there is no path, or where the host h has
---                     answered that no file is there, and none must be; else just the snapshot that it has answered, of
---                     setup v and of origin o
---     identity_in o, asks_log o
---                     whose a snapshot is, and whether a log goes with it, where there is one
+--     IsFound loads h path must found
+--                     the snapshot that the host h has answered, or none: there is no path, or h has answered that no
+--                     file is there, and none must be
+--     IsFiles heads h log g found f
+--                     the files say this setup: the snapshot, or where there is none the head of the log, as the host
+--                     has answered it, or the numbers that are given
+--     IsLoaded loads h path must f o a
+--                     this is accepted before a log is read: nothing where no snapshot is found; else just what that
+--                     has, which is of setup f and of origin o
+--     origin_in found, identity_in o, asks_log o
+--                     what a snapshot says of itself, whose it is, and whether a log goes with it, where there is one
+--     head_identity h whose a log is, where there is one
 --     owner_of o drawn must_load
 --                     whose the log is to be, and whether it must be there: where one goes with the snapshot, and where
 --                     a file must be there and the snapshot isn't
---     IsMarked saves h path v o x a
---                     where there is a path, the snapshot there is of origin x: it was loaded so, or this was saved so
---     IsMarkedLog begins names h log v j i a
---                     where there is a log, it is of identity i: it was found so, or one was begun so, of setup v, and
---                     one of all that was accepted was named
+--     IsMarked saves h path f p o x a
+--                     where there is a path, the snapshot there is of setup p and origin x: it was loaded so, or this
+--                     was saved so
+--     IsMarkedLog begins names h log p u i a
+--                     where there is a log, it is of setup p and identity i: its head u says both, or it was renewed so
 --     IsReady failed durable synced log a
 --                     where there is a log, it works, and what is durable in it is this, behind a sync
---     StartsFrom loads starts saves begins names h path log must_load v i a
---                     an engine of setup v starts with this as accepted: with what was loaded where there is no log;
---                     else with just what the host has answered to a start of the log over what was loaded, which goes
---                     on from that. Its book is i: that of the snapshot, else that of the log, else one that was drawn.
---                     And each of its files says so
+--     StartsUnder loads heads starts saves begins names h path log must_load g f p i a
+--                     under setup p this is accepted, where the files say f: what was loaded where there is no log;
+--                     else just what the host has answered to a start of the log over what was loaded, which goes on
+--                     from that. The book is i: that of the snapshot, else that of the log, else one that was drawn.
+--                     And each file says so
+--     StartsFrom loads heads starts saves begins names h path log must_load g q i a
+--                     an engine of setup q, which is the given numbers g over those of the files, starts with this as
+--                     accepted: with what is so under the files' rows and columns, in no fewer of them
 --     IsLocked locks h path must_save
 --                     where there is a path, the host has answered that its lock is held, or, where a save needn't be
 --                     seen to be possible, that it can't be had
---     IsLoadTold loads locks h path v fault
+--     IsLoadTold loads locks h path g fault
 --                     a fault of the file is told only where the host has answered it, to a load or to a call for the
---                     lock, and that the snapshot differs only where it has answered one of another setup
---     IsLogTold loads locks starts h path log must_load v fault
---                     a fault of the log is told only where the host has answered it, to a start of the log over what
---                     was loaded; or that another has the log's lock, or that it can't be had
-use Rattle.std.specs.Prelude.{◌≡◌, ◌≢◌, ◌⊎◌, ℕ, ◌^◌, Bool, true, false, List, [], Option, Some, None, is_some}
+--                     lock, and that the snapshot differs only where a number that is given is too small for it
+--     IsHeadTold heads h log must_load g fault
+--                     a fault of the log's head is reported only where the host has answered it, or where a file must be
+--                     there and isn't; and that the log differs only where a number that is given is too small for it
+--     IsLogTold loads locks heads starts h path log must_load g fault
+--                     a fault of the log is told only where the host has answered it, to a look at its head, or to a
+--                     start of the log over what was loaded; or that another has the log's lock, or that it can't be
+--                     had
+--     IsRefused loads locks heads starts h path log must_load g fault
+--                     a start may fail so: the three together, of what may be met at all, of the snapshot and of the log
+use Rattle.std.specs.Prelude.{◌≡◌, ◌⊎◌, ℕ, ◌^◌, Bool, true, false, List, [], Option, Some, None, is_some}
 use Rattle.std.specs.Prelude.{◌&&◌, not}
 use Rattle.std.specs.Prelude.{Result, Ok, Err, String, string_bytes, ◌||◌, eqb, codes}
 use Rattle.std.specs.Bool.{IsTrue}
@@ -53,11 +68,16 @@ use Rattle.snap_file.specs.declared.fault.FileFault.{FileFault}
 use Rattle.snap_file.specs.declared.fault.FileFault.TheVariants as file
 use Rattle.log_start.specs.declared.fault.StartFault.{StartFault}
 use Rattle.log_start.specs.declared.fault.StartFault.TheVariants as start
+use Rattle.socket_server.specs.declared.log_host.LogOrigin.{LogOrigin}
 use Rattle.log_start.specs.declared.owner.LogOwner.{LogOwner}
 use Rattle.session_pool.specs.Saves.{IsSaved, of_origin}
 use Rattle.socket_server.specs.Ends.{GoesOn}
+use Rattle.socket_server.specs.Faults.{IsMet}
+use Rattle.socket_server.specs.Growth.{IsGrown, IsHeadMisfit, IsMisfit, IsPlan, IsRenewed}
+use Rattle.socket_server.specs.declared.given.GivenNumbers.{GivenNumbers}
 use Rattle.socket_server.specs.declared.fault.ServerFault.{ServerFault}
-use Rattle.socket_server.specs.declared.fault.ServerFault.TheVariants.{SnapshotDiffers, NeedsLog, File, Log, NoLog}
+use Rattle.socket_server.specs.declared.fault.ServerFault.TheVariants.{SnapshotDiffers, LogDiffers, NeedsLog, File}
+use Rattle.socket_server.specs.declared.fault.ServerFault.TheVariants.{Log, NoLog}
 
 abbrev pub has_reserved_end : List ℕ → Bool
 has_reserved_end path = ends_with eqb path (codes ".new") || ends_with eqb path (codes ".lock")
@@ -85,11 +105,53 @@ abbrev pub needs_file : {Z : Type 0} → Bool → Option (String Z) → Bool
 needs_file must_load None = must_load
 needs_file must_load (Some log) = false
 
+abbrev pub IsFound : {H Z : Type 0} → (H → List ℕ → ℕ → Result Saved FileFault → Type 0) → H → Option (String Z) →
+    Bool → Option Saved → Type 0
+IsFound loads h path must (Some s) = HasLoaded loads h path (Ok s)
+IsFound loads h path must None = (path ≡ None) ⊎ (HasLoaded loads h path (Err file.NotFound) × (must ≡ false))
+
+-- there is a log, and the host has answered this to a look at its head
+abbrev pub HasHead : {H Z : Type 0} → (H → List ℕ → Result (Option Setting) StartFault → Type 0) → H →
+    Option (String Z) → Result (Option Setting) StartFault → Type 0
+HasHead heads h None answer = ⊥
+HasHead heads h (Some log) answer = heads h (string_bytes log) answer
+
+-- the head of the log says this setup; or there is no log, and it is the given one, rows and columns too
+abbrev pub IsSaid : {H Z : Type 0} → (H → List ℕ → Result (Option Setting) StartFault → Type 0) → H →
+    Option (String Z) → GivenNumbers → Setting → Type 0
+IsSaid heads h log g f =
+    HasHead heads h log (Ok (Some f))
+    ⊎ (((log ≡ None) ⊎ HasHead heads h log (Ok None)) × (f ≡ g.setup) × (g.rows ≡ true) × (g.cols ≡ true))
+
+abbrev pub IsFiles : {H Z : Type 0} → (H → List ℕ → Result (Option Setting) StartFault → Type 0) → H →
+    Option (String Z) → GivenNumbers → Option Saved → Setting → Type 0
+IsFiles heads h log g (Some s) f = f ≡ s.setup
+IsFiles heads h log g None f = IsSaid heads h log g f
+
+-- before a log is read this is known, and the snapshot says this of itself: just what it has, or nothing
+abbrev pub IsListOf : Option Saved → Option Origin → Listing → Type 0
+IsListOf (Some s) o l = (l ≡ s.list) × (o ≡ Some s.origin)
+IsListOf None o l = (accepted_in l ≡ unfolded []) × (o ≡ None)
+
 abbrev pub IsLoaded : {H Z : Type 0} → (H → List ℕ → ℕ → Result Saved FileFault → Type 0) → H → Option (String Z) →
     Bool → Setting → Option Origin → Accepted → Type 0
-IsLoaded loads h path must v (Some o) a = HasLoaded loads h path (Ok (saved o v (listed_in v a)))
-IsLoaded loads h path must v None a =
+IsLoaded loads h path must f (Some o) a = HasLoaded loads h path (Ok (saved o f (listed_in f a)))
+IsLoaded loads h path must f None a =
     ((path ≡ None) ⊎ (HasLoaded loads h path (Err file.NotFound) × (must ≡ false))) × (a ≡ unfolded [])
+
+-- where no snapshot says the setup, the log or the given numbers do
+abbrev pub IsFilesOf : {H Z : Type 0} → (H → List ℕ → Result (Option Setting) StartFault → Type 0) → H →
+    Option (String Z) → GivenNumbers → Option Origin → Setting → Type 0
+IsFilesOf heads h log g (Some o) f = Unit {0}
+IsFilesOf heads h log g None f = IsSaid heads h log g f
+
+abbrev pub origin_in : Option Saved → Option Origin
+origin_in (Some s) = Some s.origin
+origin_in None = None
+
+abbrev pub head_identity : Option LogOrigin → Identity
+head_identity (Some head) = head.identity
+head_identity None = unknown.identity
 
 abbrev pub identity_in : Option Origin → Identity
 identity_in (Some o) = o.identity
@@ -107,35 +169,41 @@ owner_of o drawn must_load = record {
 }
 
 abbrev pub IsMarked : {H Z : Type 0} → (H → List ℕ → Origin → Setting → Accepted → Type 0) → H → Option (String Z) →
-    Setting → Option Origin → Origin → Accepted → Type 0
-IsMarked saves h path v o x a = (o ≡ Some x) ⊎ IsSaved (of_origin saves x) h path v a
+    Setting → Setting → Option Origin → Origin → Accepted → Type 0
+IsMarked saves h path f p o x a = ((o ≡ Some x) × (f ≡ p)) ⊎ IsSaved (of_origin saves x) h path p a
+
+-- the head of a log says this setup and this identity, where there is one
+abbrev pub SaysBoth : Option LogOrigin → Setting → Identity → Type 0
+SaysBoth None p i = Unit {0}
+SaysBoth (Some head) p i = (head.setup ≡ p) × (head.identity ≡ i)
 
 abbrev pub IsMarkedLog : {H Z : Type 0} → (H → List ℕ → Setting → Identity → List Entry → Type 0) →
-    (H → List ℕ → List Entry → Type 0) → H → String Z → Setting → Identity → Identity → Accepted → Type 0
-IsMarkedLog begins names h log v j i a =
-    (j ≡ i) ⊎ ((es : List Entry) × begins h (string_bytes log) v i es × names h (string_bytes log) (entries_in a))
+    (H → List ℕ → List Entry → Type 0) → H → Option (String Z) → Setting → Option LogOrigin → Identity → Accepted →
+    Type 0
+IsMarkedLog begins names h log p u i a = SaysBoth u p i ⊎ IsRenewed begins names h log p i a
 
 -- what is told of a log that was started, beside the log itself
-abbrev pub started_list : {L : Type 0} → Result (L × Listing × Identity) StartFault →
-    Result (Listing × Identity) StartFault
+abbrev pub started_list : {L : Type 0} → Result (L × Listing × LogOrigin) StartFault →
+    Result (Listing × LogOrigin) StartFault
 started_list (Ok started) = Ok (started.1, started.2)
 started_list (Err fault) = Err fault
 
 -- there is a log, and the host has answered this to a start of it over what this list tells
 abbrev pub HasStarted : {H Z : Type 0} →
-    (H → List ℕ → Setting → LogOwner → Listing → Result (Listing × Identity) StartFault → Type 0) → H →
-    Option (String Z) → Setting → LogOwner → Listing → Result (Listing × Identity) StartFault → Type 0
+    (H → List ℕ → Setting → LogOwner → Listing → Result (Listing × LogOrigin) StartFault → Type 0) → H →
+    Option (String Z) → Setting → LogOwner → Listing → Result (Listing × LogOrigin) StartFault → Type 0
 HasStarted starts h None v owner known answer = ⊥
 HasStarted starts h (Some log) v owner known answer = starts h (string_bytes log) v owner known answer
 
--- this list is what is known where there is no log, and else what the host has answered to a start of it over that, and
--- whose the log is
+-- this list is what is known where there is no log, and else what the host has answered to a start of it over that,
+-- with the log's head
 abbrev pub IsJoined : {H Z : Type 0} →
-    (H → List ℕ → Setting → LogOwner → Listing → Result (Listing × Identity) StartFault → Type 0) → H →
-    Option (String Z) → Setting → LogOwner → Listing → Listing → Identity → Type 0
-IsJoined starts h None v owner known list j = (list ≡ known) × (j ≡ unknown.identity)
-IsJoined starts h (Some log) v owner known list j =
-    GoesOn (accepted_in known) (accepted_in list) × HasStarted starts h (Some log) v owner known (Ok (list, j))
+    (H → List ℕ → Setting → LogOwner → Listing → Result (Listing × LogOrigin) StartFault → Type 0) → H →
+    Option (String Z) → Setting → LogOwner → Listing → Listing → Option LogOrigin → Type 0
+IsJoined starts h None v owner known list u = (list ≡ known) × (u ≡ None)
+IsJoined starts h (Some log) v owner known list None = ⊥
+IsJoined starts h (Some log) v owner known list (Some head) =
+    GoesOn (accepted_in known) (accepted_in list) × HasStarted starts h (Some log) v owner known (Ok (list, head))
 
 -- a step of the making of a log, or of its naming
 abbrev pub IsStepFault : StartFault → Type 0
@@ -147,21 +215,30 @@ IsReady failed durable synced None a = Unit {0}
 IsReady failed durable synced (Some log) a =
     (failed log ≡ false) × (durable log ≡ entries_in a) × synced (entries_in a)
 
-abbrev pub StartsFrom : {H Y Z : Type 0} → (H → List ℕ → ℕ → Result Saved FileFault → Type 0) →
-    (H → List ℕ → Setting → LogOwner → Listing → Result (Listing × Identity) StartFault → Type 0) →
+abbrev pub StartsUnder : {H Y Z : Type 0} → (H → List ℕ → ℕ → Result Saved FileFault → Type 0) →
+    (H → List ℕ → Result (Option Setting) StartFault → Type 0) →
+    (H → List ℕ → Setting → LogOwner → Listing → Result (Listing × LogOrigin) StartFault → Type 0) →
     (H → List ℕ → Origin → Setting → Accepted → Type 0) → (H → List ℕ → Setting → Identity → List Entry → Type 0) →
-    (H → List ℕ → List Entry → Type 0) → H → Option (String Y) → Option (String Z) → Bool → Setting → Identity →
-    Accepted → Type 0
-StartsFrom loads starts saves begins names h path None must_load v i a =
-    (o : Option Origin) × (drawn : Identity) × (has_book drawn ≡ true) × IsLoaded loads h path must_load v o a
-    × (asks_log o ≡ false) × (i ≡ own (identity_in o) unknown.identity drawn)
-    × IsMarked saves h path v o (origin i false) a
-StartsFrom loads starts saves begins names h path (Some log) must_load v i a =
-    (k : Accepted) × (o : Option Origin) × (drawn : Identity) × (j : Identity) × (has_book drawn ≡ true)
-    × IsLoaded loads h path false v o k
-    × IsJoined starts h (Some log) v (owner_of o drawn must_load) (listed_in v k) (listed_in v a) j
-    × (i ≡ own (identity_in o) j drawn) × IsMarked saves h path v o (origin i true) a
-    × IsMarkedLog begins names h log v j i a
+    (H → List ℕ → List Entry → Type 0) → H → Option (String Y) → Option (String Z) → Bool → GivenNumbers → Setting →
+    Setting → Identity → Accepted → Type 0
+StartsUnder loads heads starts saves begins names h path log must_load g f p i a =
+    (k : Accepted) × (o : Option Origin) × (drawn : Identity) × (u : Option LogOrigin) × (has_book drawn ≡ true)
+    × IsLoaded loads h path (needs_file must_load log) f o k × IsFilesOf heads h log g o f
+    × (log ≡ None → asks_log o ≡ false)
+    × IsJoined starts h log p (owner_of o drawn must_load) (listed_in p k) (listed_in p a) u
+    × (i ≡ own (identity_in o) (head_identity u) drawn) × IsMarked saves h path f p o (origin i (is_some log)) a
+    × IsMarkedLog begins names h log p u i a
+
+abbrev pub StartsFrom : {H Y Z : Type 0} → (H → List ℕ → ℕ → Result Saved FileFault → Type 0) →
+    (H → List ℕ → Result (Option Setting) StartFault → Type 0) →
+    (H → List ℕ → Setting → LogOwner → Listing → Result (Listing × LogOrigin) StartFault → Type 0) →
+    (H → List ℕ → Origin → Setting → Accepted → Type 0) → (H → List ℕ → Setting → Identity → List Entry → Type 0) →
+    (H → List ℕ → List Entry → Type 0) → H → Option (String Y) → Option (String Z) → Bool → GivenNumbers → Setting →
+    Identity → Accepted → Type 0
+StartsFrom loads heads starts saves begins names h path log must_load g q i a =
+    (f : Setting) × (p : Setting) × (b : Accepted) × IsPlan g f p q
+    × StartsUnder loads heads starts saves begins names h path log must_load g f p i b
+    × IsGrown saves begins names h path log p q (origin i (is_some log)) b a
 
 -- whether a lock is held from then on, or why not
 abbrev pub lock_answer : {L : Type 0} → Result (Option L) FileFault → Result Bool FileFault
@@ -181,13 +258,24 @@ IsLocked locks h path must_save =
     ⊎ (HasAnsweredLock locks h path (Ok false) × (must_save ≡ false))
 
 abbrev pub IsLoadTold : {H Z : Type 0} → (H → List ℕ → ℕ → Result Saved FileFault → Type 0) →
-    (H → List ℕ → Result Bool FileFault → Type 0) → H → Option (String Z) → Setting → ServerFault → Type 0
-IsLoadTold loads locks h path v SnapshotDiffers = (s : Saved) × HasLoaded loads h path (Ok s) × (s.setup ≢ v)
-IsLoadTold loads locks h path v (NeedsLog snapshot) =
+    (H → List ℕ → Result Bool FileFault → Type 0) → H → Option (String Z) → GivenNumbers → ServerFault → Type 0
+IsLoadTold loads locks h path g (SnapshotDiffers misfit) =
+    (s : Saved) × HasLoaded loads h path (Ok s) × IsMisfit g s misfit
+IsLoadTold loads locks h path g (NeedsLog snapshot) =
     (s : Saved) × HasLoaded loads h path (Ok s) × (s.origin.has_log ≡ true)
-IsLoadTold loads locks h path v (File fault) =
+IsLoadTold loads locks h path g (File fault) =
     HasLoaded loads h path (Err fault) ⊎ HasAnsweredLock locks h path (Err fault)
-IsLoadTold loads locks h path v _ = Unit {0}
+IsLoadTold loads locks h path g _ = Unit {0}
+
+abbrev pub IsHeadTold : {H Z : Type 0} → (H → List ℕ → Result (Option Setting) StartFault → Type 0) → H →
+    Option (String Z) → Bool → GivenNumbers → ServerFault → Type 0
+IsHeadTold heads h log must_load g (LogDiffers misfit) =
+    (u : Setting) × HasHead heads h log (Ok (Some u)) × IsHeadMisfit g u misfit
+IsHeadTold heads h log must_load g (Log fault) =
+    HasHead heads h log (Err fault)
+    ⊎ (HasHead heads h log (Ok None) × (must_load ≡ true) × (fault ≡ start.NotFound))
+IsHeadTold heads h log must_load g (NoLog missing snapshot) = ⊥
+IsHeadTold heads h log must_load g _ = Unit {0}
 
 -- a fault of the log is told only where another has its lock, or where that can't be had
 abbrev pub IsLockTold : {H Z : Type 0} → (H → List ℕ → Result Bool FileFault → Type 0) → H → Option (String Z) →
@@ -196,26 +284,38 @@ IsLockTold locks h log (Log fault) =
     (HasAnsweredLock locks h log (Err file.Busy) × (fault ≡ start.Busy))
     ⊎ (HasAnsweredLock locks h log (Ok false) × (fault ≡ start.Create))
 IsLockTold locks h log (NoLog missing snapshot) = ⊥
+IsLockTold locks h log (LogDiffers misfit) = ⊥
 IsLockTold locks h log _ = Unit {0}
 
 -- a fault of the log is reported only where the host has answered it to a start of the log over what is known; or it is
 -- that of a step by which a log that was started is rotated
 abbrev pub IsStartTold : {H Z : Type 0} →
-    (H → List ℕ → Setting → LogOwner → Listing → Result (Listing × Identity) StartFault → Type 0) →
+    (H → List ℕ → Setting → LogOwner → Listing → Result (Listing × LogOrigin) StartFault → Type 0) →
     H → Option (String Z) → Setting → LogOwner → Listing → ServerFault → Type 0
 IsStartTold starts h log v owner known (Log fault) =
     HasStarted starts h log v owner known (Err fault)
-    ⊎ ((list : Listing) × (j : Identity) × HasStarted starts h log v owner known (Ok (list, j)) × IsStepFault fault)
+    ⊎ ((list : Listing) × (u : LogOrigin) × HasStarted starts h log v owner known (Ok (list, u)) × IsStepFault fault)
 IsStartTold starts h log v owner known (NoLog missing snapshot) =
     HasStarted starts h log v owner known (Err start.NotFound) × (owner.must_be_there ≡ true)
+IsStartTold starts h log v owner known (LogDiffers misfit) = ⊥
 IsStartTold starts h log v owner known _ = Unit {0}
 
 abbrev pub IsLogTold : {H Y Z : Type 0} → (H → List ℕ → ℕ → Result Saved FileFault → Type 0) →
-    (H → List ℕ → Result Bool FileFault → Type 0) →
-    (H → List ℕ → Setting → LogOwner → Listing → Result (Listing × Identity) StartFault → Type 0) → H →
-    Option (String Y) → Option (String Z) → Bool → Setting → ServerFault → Type 0
-IsLogTold loads locks starts h path log must_load v fault =
+    (H → List ℕ → Result Bool FileFault → Type 0) → (H → List ℕ → Result (Option Setting) StartFault → Type 0) →
+    (H → List ℕ → Setting → LogOwner → Listing → Result (Listing × LogOrigin) StartFault → Type 0) → H →
+    Option (String Y) → Option (String Z) → Bool → GivenNumbers → ServerFault → Type 0
+IsLogTold loads locks heads starts h path log must_load g fault =
     IsLockTold locks h log fault
-    ⊎ ((k : Accepted) × (o : Option Origin) × (drawn : Identity)
-    × IsLoaded loads h path (needs_file must_load log) v o k
-    × IsStartTold starts h log v (owner_of o drawn must_load) (listed_in v k) fault)
+    ⊎ (IsHeadTold heads h log must_load g fault
+    ⊎ ((k : Accepted) × (f p q : Setting) × (o : Option Origin) × (drawn : Identity) × IsPlan g f p q
+    × IsLoaded loads h path (needs_file must_load log) f o k
+    × IsStartTold starts h log p (owner_of o drawn must_load) (listed_in p k) fault))
+
+pub record IsRefused {H Y Z : Type 0} (loads : H → List ℕ → ℕ → Result Saved FileFault → Type 0)
+    (locks : H → List ℕ → Result Bool FileFault → Type 0) (heads : H → List ℕ → Result (Option Setting) StartFault → Type 0)
+    (starts : H → List ℕ → Setting → LogOwner → Listing → Result (Listing × LogOrigin) StartFault → Type 0) (h : H)
+    (path : Option (String Y)) (log : Option (String Z)) (must_load : Bool) (g : GivenNumbers) (fault : ServerFault) :
+    Type 0 where
+  pub met : IsMet must_load fault
+  pub told : IsLoadTold loads locks h path g fault
+  pub log_told : IsLogTold loads locks heads starts h path log must_load g fault

@@ -6,16 +6,15 @@ ghost use Rattle.snap_file.specs.Snapshots.{HasBase};
 ghost use Rattle.stored_log.specs.Kept.{WasSynced, is_failed};
 ghost use Rattle.socket_server.specs.Ends.{GoesOn};
 
-use crate::log_host::LogHost;
-use crate::start::same_setup;
+use crate::log_host::{LogHost, LogOrigin};
 use batch_store::{BookList, Setup};
+use log_blocks::{LogFault, LogKind};
 use log_file::LogMark;
 use log_folder::{FileLogFolder, FolderFault, LogFolder, LogNews, Refusal, StartedLog};
 use log_start::{LogOwner, StartFault, Started};
-use session_pool::FileLog;
-use snap_file::Identity;
+use session_pool::{FileLog, HeadFault, log_head_at};
 use std::alloc::Global;
-use std::fs::File;
+use std::fs::{self, File};
 use std::rt::Files;
 use std::sync::Arc;
 use std::thread;
@@ -76,7 +75,7 @@ fn start_untold<F: LogFolder>(
     owner: &LogOwner,
     known: BookList,
     mark: &mut Option<LogMark>,
-) -> Result<(StoredLog<F::Disk>, BookList, Identity), StartFault>
+) -> Result<(StoredLog<F::Disk>, BookList, LogOrigin), StartFault>
     requires untold { F.tells folder.old → ⊥ }
     requires untelling { F.Disk.telling → ⊥ }
     requires failures { F.failure_count folder.old + 1 < 2 ^ 64 }
@@ -95,24 +94,44 @@ fn start_untold<F: LogFolder>(
         log,
         list,
         identity,
-        setup: of_log,
+        setup,
     } = match log_start::start_log(folder, alloc, setup, owner, known) {
         Ok(started) => started,
         Err(fault) => return Err(fault),
     };
-    // No block is appended to a log of another setup.
-    if !same_setup(&of_log, setup) {
-        return Err(StartFault::SetupDiffers);
-    }
+    let head = LogOrigin { setup, identity };
     *mark = Some(log.writer.mark());
     match StoredLog::new(alloc, log, &list) {
-        Ok(log) => Ok((log, list, identity)),
+        Ok(log) => Ok((log, list, head)),
         Err(_) => Err(StartFault::Memory),
+    }
+}
+
+// Whether a file is under a path.
+fn is_file<R: Files<File = File>>(rt: &R, path: &str) -> bool {
+    match fs::metadata(rt, path) {
+        Ok(found) => found.is_file(),
+        Err(_) => false,
     }
 }
 
 impl<R: Files<File = File> + Clock> LogHost<FileLog> for R {
     ghost log_starts = { λ h path setup owner known answer. ⊤ };
+
+    ghost log_heads = { λ h path answer. ⊤ };
+
+    fn log_setup(&self, path: &str) -> Result<Option<Setup>, StartFault> {
+        match log_head_at(self, path) {
+            Ok(Some(head)) => Ok(Some(head.setup)),
+            Ok(None) if is_file(self, path) => Err(StartFault::Log(LogFault {
+                kind: LogKind::Truncated,
+                page: 0,
+            })),
+            Ok(None) => Ok(None),
+            Err(HeadFault::Read) => Err(StartFault::Create),
+            Err(HeadFault::NoLog(kind)) => Err(StartFault::Log(LogFault { kind, page: 0 })),
+        }
+    }
 
     fn start_log(
         &self,
@@ -123,7 +142,7 @@ impl<R: Files<File = File> + Clock> LogHost<FileLog> for R {
         owner: &LogOwner,
         known: BookList,
         news: &Arc<LogNews>,
-    ) -> Result<(FileLog, BookList, Identity), StartFault> {
+    ) -> Result<(FileLog, BookList, LogOrigin), StartFault> {
         let mut folder = match FileLogFolder::open(self, alloc, path, snapshot) {
             Ok(folder) => folder.telling(Some(news)),
             Err(fault) => return Err(folder_fault(fault)),
@@ -131,9 +150,9 @@ impl<R: Files<File = File> + Clock> LogHost<FileLog> for R {
         await_file(self, &folder);
         let mut mark = None;
         match start_untold(&mut folder, alloc, setup, owner, known, &mut mark) {
-            Ok((stored, list, identity)) => {
+            Ok((stored, list, head)) => {
                 note_start(news, mark, folder.has_made());
-                Ok((FileLog::new(stored), list, identity))
+                Ok((FileLog::new(stored), list, head))
             }
             Err(fault) => Err(start_fault(folder.refusal(), fault)),
         }

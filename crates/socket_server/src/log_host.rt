@@ -1,11 +1,11 @@
 //! What a server asks of the place of its log at the start.
-ghost use Rattle.std.specs.Prelude.{◌≡◌, ℕ, List, Result, IfOk, false, ⊤};
+ghost use Rattle.std.specs.Prelude.{◌≡◌, ℕ, List, Option, Result, IfOk, false, ⊤};
 ghost use Rattle.batch_store.specs.Accepted.{entries_in};
 ghost use Rattle.batch_store.specs.Books.{Listing, AreAccepted, accepted_in};
 ghost use Rattle.batch_store.specs.Setups.{Setting};
 ghost use Rattle.log_start.specs.declared.fault.StartFault.{StartFault};
 ghost use Rattle.log_start.specs.declared.owner.LogOwner.{LogOwner};
-ghost use Rattle.snap_file.specs.declared.origin.Identity.{Identity};
+ghost use Rattle.socket_server.specs.declared.log_host.LogOrigin.{LogOrigin};
 ghost use Rattle.snap_file.specs.Snapshots.{HasBase};
 ghost use Rattle.socket_server.specs.Ends.{GoesOn};
 ghost use Rattle.socket_server.specs.Starts.{started_list};
@@ -18,18 +18,38 @@ use snap_file::Identity;
 use std::alloc::Global;
 use std::sync::Arc;
 
+/// What the head of a log says of itself: the setup of its blocks, and whose it is.
+#[derive(Clone, Copy)]
+pub struct LogOrigin {
+    pub setup: Setup,
+    /// Where it isn't known the log's version doesn't say it.
+    pub identity: Identity,
+}
+
 /// A place where logs are found and begun. As with `Host`, a server knows this trait, and every runtime with files has
 /// it for logs in files.
 pub trait LogHost<L: Log> {
     // What it has answered to a start of the log under this path, of this setup and this owner, over what is known: the
-    // list of both together and whose the log is, or why there is none. Of a real host's files no clause can speak, so
-    // there it is any.
-    ghost log_starts: { Self → List ℕ → Setting → LogOwner → Listing → Result (Listing × Identity) StartFault →
+    // list of both together and the head of the log, or why there is none. Of a real host's files no clause can speak,
+    // so there it is any.
+    ghost log_starts: { Self → List ℕ → Setting → LogOwner → Listing → Result (Listing × LogOrigin) StartFault →
         Type 0 };
 
+    // What it has answered to a look at the log under this path: the setup that its head says, or that there is none.
+    ghost log_heads: { Self → List ℕ → Result (Option Setting) StartFault → Type 0 };
+
+    /// The setup that the head of the log under `path` says, and None where no log is there. The caller holds the lock
+    /// of the path.
+    ///
+    /// # Errors
+    ///
+    /// `Create` where the file can't be read, and `Log` where its first page isn't the head of a log.
+    fn log_setup(&self, path: &str) -> Result<Option<Setup>, StartFault>
+        ensures answer { log_heads self.now path.now result };
+
     /// Starts the log under `path`, beside the snapshot under `snapshot`, if there is one: finds it and joins it with
-    /// what is known, or begins it behind that. The list is what is known and the log's batches behind it, all of them
-    /// durable; the identity is the log's. The caller holds the lock of the log's path. It is noted in `news` which log
+    /// what is known, or begins it after that. The list is what is known and the log's batches after it, all of them
+    /// durable; the head is the log's. The caller holds the lock of the log's path. It is noted in `news` which log
     /// that is, and as long as it is in use why a call on it fails.
     ///
     /// # Errors
@@ -44,7 +64,7 @@ pub trait LogHost<L: Log> {
         owner: &LogOwner,
         known: BookList,
         news: &Arc<LogNews>,
-    ) -> Result<(L, BookList, Identity), StartFault>
+    ) -> Result<(L, BookList, LogOrigin), StartFault>
         requires accepted { AreAccepted setup.now (accepted_in known) }
         requires based { HasBase setup.now known }
         ensures answer { log_starts self.now path.now setup.now owner.now known (started_list result) }

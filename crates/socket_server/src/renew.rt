@@ -5,7 +5,7 @@ ghost use Rattle.batch_store.specs.Batches.{entries_of, values};
 ghost use Rattle.batch_store.specs.Books.{AreAccepted, accepted_in};
 ghost use Rattle.batch_store.specs.declared.verdict.Entry.{Entry};
 
-use crate::start::empty_list;
+use crate::load::empty_list;
 use batch_store::{Batch, BookList, Setup};
 use byte_io::WriteFault;
 use log_desk::{Log, RoomFault};

@@ -2,6 +2,7 @@
 ghost use Rattle.std.specs.Prelude.{◌≡◌, ◌+◌, ◌<◌, ◌≤◌, ◌^◌, ◌↔◌, ◌⊎◌, length, None, Err, IfOk, IfErr, OnOk};
 ghost use Rattle.std.specs.Prelude.{is_some, true};
 ghost use Rattle.batch_store.specs.Accepted.{Accepted};
+ghost use Rattle.batch_store.specs.Setups.{Setting};
 ghost use Rattle.locked_engine.specs.Opened.{NamesEngine};
 ghost use Rattle.session_pool.specs.Saves.{of_origin};
 ghost use Rattle.snap_file.specs.Origins.{origin};
@@ -14,11 +15,12 @@ ghost use Rattle.socket_server.specs.Starts.{IsReserved};
 use crate::bind::{Listeners, Places, bind_listeners, tell};
 use crate::fault::ServerFault;
 use crate::host::Host;
+use crate::lock::take_locks;
 use crate::log_host::LogHost;
 use crate::opened::Opened;
 use crate::serving::{close_opened, serve_listeners};
 use crate::settings::{Settings, time_limit};
-use crate::start::{Start, make_start, take_locks};
+use crate::start::{Start, make_start};
 use crate::stopped::Stopped;
 use crate::unsaved::last_unsaved;
 use byte_io::Sink;
@@ -290,7 +292,7 @@ fn plan_of(settings: Settings, identity: Identity, failure: SaveFailure, counter
     let Settings {
         tcp,
         unix,
-        setup: _,
+        numbers: _,
         workers: _,
         compactors,
         snapshot,
@@ -344,18 +346,18 @@ fn serve_settings<
     requires workers { (1 ≤ settings.workers) × (settings.workers ≤ 32) }
     ensures locked { IfOk result (λ _. IsLocked R.locks rt.now settings.snapshot settings.must_save) }
     ensures log_locked { IfOk result (λ _. IsLocked R.locks rt.now settings.log true) }
-    ensures ended { IfOk result (λ s. (a : Accepted) × (i : Identity)
-        × StartsFrom R.loads R.log_starts R.saves R.begins R.names rt.now settings.snapshot settings.log
-        settings.must_load settings.setup i a × HasEnded (of_origin R.saves (origin i (is_some settings.log))) rt.now
-        L.was_synced settings.snapshot settings.setup (is_some settings.log) a (stopped s 0)) }
-    ensures short { IfErr result (IsShort (λ s. (a : Accepted) × (i : Identity)
-        × StartsFrom R.loads R.log_starts R.saves R.begins R.names rt.now settings.snapshot settings.log
-        settings.must_load settings.setup i a × HasEnded (of_origin R.saves (origin i (is_some settings.log))) rt.now
-        L.was_synced settings.snapshot settings.setup (is_some settings.log) a s)) }
+    ensures ended { IfOk result (λ s. (v : Setting) × (a : Accepted) × (i : Identity)
+        × StartsFrom R.loads R.log_heads R.log_starts R.saves R.begins R.names rt.now settings.snapshot settings.log
+        settings.must_load settings.numbers v i a × HasEnded (of_origin R.saves (origin i (is_some settings.log)))
+        rt.now L.was_synced settings.snapshot v (is_some settings.log) a (stopped s 0)) }
+    ensures short { IfErr result (IsShort (λ s. (v : Setting) × (a : Accepted) × (i : Identity)
+        × StartsFrom R.loads R.log_heads R.log_starts R.saves R.begins R.names rt.now settings.snapshot settings.log
+        settings.must_load settings.numbers v i a × HasEnded (of_origin R.saves (origin i (is_some settings.log)))
+        rt.now L.was_synced settings.snapshot v (is_some settings.log) a s)) }
     ensures met { IfErr result (MayEnd (IsMet settings.must_load)) }
-    ensures told { IfErr result (λ f. IsLoadTold R.loads R.locks rt.now settings.snapshot settings.setup f) }
-    ensures log_told { IfErr result (λ f. IsLogTold R.loads R.locks R.log_starts rt.now settings.snapshot settings.log
-        settings.must_load settings.setup f) }
+    ensures told { IfErr result (λ f. IsLoadTold R.loads R.locks rt.now settings.snapshot settings.numbers f) }
+    ensures log_told { IfErr result (λ f. IsLogTold R.loads R.locks R.log_heads R.log_starts rt.now settings.snapshot
+        settings.log settings.must_load settings.numbers f) }
 {
     let _locks = take_locks(rt, alloc, &settings)?;
     // What can be refused comes before the start: a refusal then has no engine to drop.
@@ -380,6 +382,7 @@ fn serve_settings<
 /// `L` is the type of logs: `FileLog`, but in tests.
 ///
 /// Before it listens each of its files says the identity of the book: the snapshot's, else the log's, else a drawn one.
+/// Each says the server's setup too: the numbers that are given, and else those of the files.
 ///
 /// The snapshot's path is locked, as `snap_file::lock` does it, from before the load until the answer. Where the lock
 /// can't be had, the server goes on without it, unless it must be seen that a snapshot can be saved. While another
@@ -435,19 +438,19 @@ pub fn run_server<
     ensures others { IfErr result (λ f. (f ≡ ServerFault.BadWorkers) ⊎ (f ≡ ServerFault.NoAddress)
         ⊎ (f ≡ ServerFault.BadSnapshotPath) ⊎ (f ≡ ServerFault.BadLogPath) ⊎ (f ≡ ServerFault.SamePath)
         ⊎ (f ≡ ServerFault.BadCompactors) ⊎ MayEnd (IsMet settings.must_load) f) }
-    ensures told { IfErr result (λ f. IsLoadTold R.loads R.locks rt.now settings.snapshot settings.setup f) }
-    ensures log_told { IfErr result (λ f. IsLogTold R.loads R.locks R.log_starts rt.now settings.snapshot settings.log
-        settings.must_load settings.setup f) }
+    ensures told { IfErr result (λ f. IsLoadTold R.loads R.locks rt.now settings.snapshot settings.numbers f) }
+    ensures log_told { IfErr result (λ f. IsLogTold R.loads R.locks R.log_heads R.log_starts rt.now settings.snapshot
+        settings.log settings.must_load settings.numbers f) }
     ensures locked { IfOk result (λ _. IsLocked R.locks rt.now settings.snapshot settings.must_save) }
     ensures log_locked { IfOk result (λ _. IsLocked R.locks rt.now settings.log true) }
-    ensures ended { IfOk result (λ s. (a : Accepted) × (i : Identity)
-        × StartsFrom R.loads R.log_starts R.saves R.begins R.names rt.now settings.snapshot settings.log
-        settings.must_load settings.setup i a × HasEnded (of_origin R.saves (origin i (is_some settings.log))) rt.now
-        L.was_synced settings.snapshot settings.setup (is_some settings.log) a (stopped s 0)) }
-    ensures short { IfErr result (IsShort (λ s. (a : Accepted) × (i : Identity)
-        × StartsFrom R.loads R.log_starts R.saves R.begins R.names rt.now settings.snapshot settings.log
-        settings.must_load settings.setup i a × HasEnded (of_origin R.saves (origin i (is_some settings.log))) rt.now
-        L.was_synced settings.snapshot settings.setup (is_some settings.log) a s)) }
+    ensures ended { IfOk result (λ s. (v : Setting) × (a : Accepted) × (i : Identity)
+        × StartsFrom R.loads R.log_heads R.log_starts R.saves R.begins R.names rt.now settings.snapshot settings.log
+        settings.must_load settings.numbers v i a × HasEnded (of_origin R.saves (origin i (is_some settings.log)))
+        rt.now L.was_synced settings.snapshot v (is_some settings.log) a (stopped s 0)) }
+    ensures short { IfErr result (IsShort (λ s. (v : Setting) × (a : Accepted) × (i : Identity)
+        × StartsFrom R.loads R.log_heads R.log_starts R.saves R.begins R.names rt.now settings.snapshot settings.log
+        settings.must_load settings.numbers v i a × HasEnded (of_origin R.saves (origin i (is_some settings.log)))
+        rt.now L.was_synced settings.snapshot v (is_some settings.log) a s)) }
 {
     settings.judge()?;
     serve_settings::<L, R, W>(rt, alloc, settings, out)

@@ -1,7 +1,7 @@
 //! Settings of small servers.
 
 use batch_store::Setup;
-use socket_server::Settings;
+use socket_server::{GivenNumbers, Settings};
 use std::alloc::Global;
 use std::process::Abort;
 
@@ -53,7 +53,7 @@ pub fn settings(rt: &impl Abort, alloc: Global, plan: &Plan) -> Settings {
     Settings {
         tcp: owned(rt, alloc, plan.tcp),
         unix: owned(rt, alloc, plan.unix),
-        setup: Setup::new(3, 3, &[2, 4], 2, 100, 10).expect(rt, "setup"),
+        numbers: GivenNumbers::all(Setup::new(3, 3, &[2, 4], 2, 100, 10).expect(rt, "setup")),
         workers: plan.workers,
         compactors: plan.compactors,
         snapshot: owned(rt, alloc, plan.snapshot),

@@ -23,18 +23,17 @@ returns-clause-ended g c =
     let h = c.args.rt.now in
     let log = is_some c.in_ok-start.start.log in
     let own = origin i (is_some c.args.settings.log) in
-    IfOk-weaker c.serve_plan.result _ _ (λ s e. (a, i, told.start, e))
+    let v = c.in_ok-start.start.plain.setup in
+    IfOk-weaker c.serve_plan.result _ _ (λ s e. (v, a, i, told.start, e))
     (subst (λ (b : Bool). IfOk c.serve_plan.result
-    (λ s. HasEnded (of_origin saves own) h synced c.args.settings.snapshot c.args.settings.setup b a (stopped s 0)))
+    (λ s. HasEnded (of_origin saves own) h synced c.args.settings.snapshot v b a (stopped s 0)))
     told.has_log
     (subst (λ (p : Option (String _)). IfOk c.serve_plan.result
-    (λ s. HasEnded (of_origin saves own) h synced p c.args.settings.setup log a (stopped s 0))) c.plan_of-plan.ensures.path
+    (λ s. HasEnded (of_origin saves own) h synced p v log a (stopped s 0))) c.plan_of-plan.ensures.path
     (subst (λ (o : Origin). IfOk c.serve_plan.result
-    (λ s. HasEnded (of_origin saves o) h synced c.plan_of-plan.result.saver.path c.args.settings.setup log a
+    (λ s. HasEnded (of_origin saves o) h synced c.plan_of-plan.result.saver.path v log a
     (stopped s 0))) c.plan_of-plan.ensures.origin
-    (subst (λ (v : Setting). IfOk c.serve_plan.result
-    (λ s. HasEnded (of_origin saves c.plan_of-plan.result.saver.origin) h synced c.plan_of-plan.result.saver.path v log a
-    (stopped s 0))) told.setup c.serve_plan.ensures.ended))))
+    c.serve_plan.ensures.ended)))
 
 -- and so where batches are missing
 pub returns-clause-short : goal.returns-clause-short
@@ -47,22 +46,20 @@ returns-clause-short g c =
     let h = c.args.rt.now in
     let log = is_some c.in_ok-start.start.log in
     let own = origin i (is_some c.args.settings.log) in
+    let v = c.in_ok-start.start.plain.setup in
     short_weaker c.serve_plan.result
-    (HasEnded (of_origin saves own) h synced c.args.settings.snapshot c.args.settings.setup
-    (is_some c.args.settings.log) a)
-    (λ s. (x : Accepted) × (j : Identity) × StartsFrom g.R.Host.loads g.R.LogHost.log_starts g.R.Disk.saves
-    g.R.LogPlace.begins g.R.LogPlace.names h c.args.settings.snapshot
-    c.args.settings.log c.args.settings.must_load c.args.settings.setup j x
-    × HasEnded (of_origin saves (origin j (is_some c.args.settings.log))) h synced c.args.settings.snapshot
-    c.args.settings.setup (is_some c.args.settings.log) x s)
-    (λ s e. (a, i, told.start, e))
+    (HasEnded (of_origin saves own) h synced c.args.settings.snapshot v (is_some c.args.settings.log) a)
+    (λ s. (w : Setting) × (x : Accepted) × (j : Identity) × StartsFrom g.R.Host.loads g.R.LogHost.log_heads
+    g.R.LogHost.log_starts g.R.Disk.saves g.R.LogPlace.begins g.R.LogPlace.names h c.args.settings.snapshot
+    c.args.settings.log c.args.settings.must_load c.args.settings.numbers w j x
+    × HasEnded (of_origin saves (origin j (is_some c.args.settings.log))) h synced c.args.settings.snapshot w
+    (is_some c.args.settings.log) x s)
+    (λ s e. (v, a, i, told.start, e))
     (subst (λ (b : Bool). IfErr c.serve_plan.result
-    (IsShort (HasEnded (of_origin saves own) h synced c.args.settings.snapshot c.args.settings.setup b a))) told.has_log
+    (IsShort (HasEnded (of_origin saves own) h synced c.args.settings.snapshot v b a))) told.has_log
     (subst (λ (p : Option (String _)). IfErr c.serve_plan.result
-    (IsShort (HasEnded (of_origin saves own) h synced p c.args.settings.setup log a))) c.plan_of-plan.ensures.path
+    (IsShort (HasEnded (of_origin saves own) h synced p v log a))) c.plan_of-plan.ensures.path
     (subst (λ (o : Origin). IfErr c.serve_plan.result
-    (IsShort (HasEnded (of_origin saves o) h synced c.plan_of-plan.result.saver.path c.args.settings.setup log a)))
+    (IsShort (HasEnded (of_origin saves o) h synced c.plan_of-plan.result.saver.path v log a)))
     c.plan_of-plan.ensures.origin
-    (subst (λ (v : Setting). IfErr c.serve_plan.result
-    (IsShort (HasEnded (of_origin saves c.plan_of-plan.result.saver.origin) h synced c.plan_of-plan.result.saver.path v
-    log a))) told.setup c.serve_plan.ensures.short))))
+    c.serve_plan.ensures.short)))

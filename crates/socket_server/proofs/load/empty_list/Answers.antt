@@ -4,7 +4,7 @@ use Rattle.hyper_matrix.specs.Matrix.{Matrix}
 use Rattle.batch_store.specs.declared.verdict.Entry.{Entry}
 use Rattle.batch_store.specs.Accepted.{IsBase}
 use Rattle.batch_store.proofs.BookLaws.{accepted_none}
-use Rattle.socket_server.proofs.start.empty_list.Goals as goal
+use Rattle.socket_server.proofs.load.empty_list.Goals as goal
 
 pub returns-in_default-clause-accepted : goal.returns-in_default-clause-accepted
 returns-in_default-clause-accepted c = accepted_none c.args.setup.now c.rows.ensures.kept

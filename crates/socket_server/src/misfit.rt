@@ -1,0 +1,41 @@
+//! A number of a setup that is too small for what the files have.
+
+use std::fmt;
+
+/// A number of a setup.
+#[derive(Clone, Copy, Debug, PartialEq, Eq)]
+pub enum Number {
+    Rows,
+    Cols,
+    Limit,
+    MaxBatches,
+}
+
+impl fmt::Display for Number {
+    fn fmt<W: fmt::Write>(&self, f: &mut fmt::Formatter<W>) -> fmt::Result {
+        f.write_str(match self {
+            Number::Rows => "rows",
+            Number::Cols => "cols",
+            Number::Limit => "limit",
+            Number::MaxBatches => "max-batches",
+        })
+    }
+}
+
+/// A number that a start was given and that is too small: for the files' rows or columns, for the total of what was
+/// accepted, or for the number of batches.
+#[derive(Clone, Copy, Debug, PartialEq, Eq)]
+pub struct Misfit {
+    pub number: Number,
+    /// What the files have.
+    pub has: u64,
+    /// What was given.
+    pub given: u64,
+}
+
+impl fmt::Display for Misfit {
+    fn fmt<W: fmt::Write>(&self, f: &mut fmt::Formatter<W>) -> fmt::Result {
+        let Misfit { number, has, given } = *self;
+        write!(f, "{number}: the file has {has}, {given} was given")
+    }
+}
