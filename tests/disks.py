@@ -79,17 +79,32 @@ class Page:
 
 
 class Room:
-    """A place of one server's files, and what the library needs beside it: `log` and `snap` are the paths there."""
+    """A place of one server's files, and what the library needs beside it: `log` and `snap` are the paths there.
+
+    The folder may be that of another server too, whose files have other names.
+    """
 
     library = ""
 
-    def __init__(self, top):
-        self.top, self.folder = top, os.path.join(top, "files")
-        os.makedirs(self.folder)
-        self.log, self.snap = (os.path.join(self.folder, name) for name in ("log", "snap"))
+    def __init__(self, top, folder=None, names=("log", "snap")):
+        self.top, self.folder = top, folder or os.path.join(top, "files")
+        os.makedirs(top, exist_ok=True)
+        os.makedirs(self.folder, exist_ok=folder is not None)
+        self.log, self.snap = (os.path.join(self.folder, name) for name in names)
+        # All names that the server's files may have.
+        self.names = {name + end for name in names for end in ("", ".new", ".lock")}
         self.trace, self.page = os.path.join(top, "trace"), Page(os.path.join(top, "page"))
         # Power isn't lost indeed, so that nothing has to wait for a disk.
         self.page[Page.PRETEND] = 1
+
+    def role(self, path):
+        """Whether a path is of the log or of the snapshot, or of neither."""
+        plain = path.removesuffix(".new").removesuffix(".lock")
+        return {self.log: "log", self.snap: "snap"}.get(plain)
+
+    def present(self):
+        """The names of the server's files that are there."""
+        return sorted(self.names & {*os.listdir(self.folder)})
 
     def how(self, traced=False):
         """How a program is started whose calls on the files are followed."""
@@ -208,8 +223,10 @@ def piece(write, begin, end):
 class Disk:
     """A folder's files by their names: those that stand there now, and which others a loss of power may leave there."""
 
-    def __init__(self, folder, misses=None):
+    def __init__(self, folder, misses=None, names=None):
         self.folder, self.files, self.older = folder, {}, {}
+        # The names of the files that are followed, where others in the folder aren't.
+        self.names = names
         self.handles, self.renaming = {}, None
         # Whether a record isn't taken, as if the program hadn't made the call: so tests are tested.
         self.misses = misses
@@ -290,7 +307,7 @@ class Disk:
     def after_kill(self, forgets):
         """Takes over what a killed program has left, in which files and names are as they were. Where the system
         forgets, it found meanwhile that some of it can't be written, and no sync tells of that."""
-        standing = {os.path.join(self.folder, name) for name in os.listdir(self.folder)}
+        standing = {os.path.join(self.folder, name) for name in self.followed()}
         if self.renaming and self.renaming[0] not in standing:
             self.end_rename()
         for path in {*self.files, *standing}:
@@ -301,10 +318,14 @@ class Disk:
             if forgets:
                 file.fail_sync()
 
+    def followed(self):
+        """The names in the folder that are followed."""
+        return [name for name in os.listdir(self.folder) if self.names is None or name in self.names]
+
     def settle(self):
         """What stands in the folder is all durable, as after a loss of power."""
         self.files, self.older, self.handles, self.renaming = {}, {}, {}, None
-        for name in os.listdir(self.folder):
+        for name in self.followed():
             path = os.path.join(self.folder, name)
             with contextlib.suppress(OSError), open(path, "rb") as file:
                 held = file.read()

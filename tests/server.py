@@ -404,9 +404,10 @@ def snapshots_outlive_a_kill():
         with server.client(7) as hhm:
             check("after a stop", hhm.status(), Status(2, 7))
         server.stop("after a stop", 2, 7)
-    run = subprocess.run([PROGRAM, "serve", "--unix", os.path.join(FOLDER, "x"), *SMALL[:-1], "11", "--snapshot", path],
+    run = subprocess.run([PROGRAM, "serve", "--unix", os.path.join(FOLDER, "x"), *SMALL[:-1], "1", "--snapshot", path],
                          capture_output=True, text=True, timeout=WAIT)
-    check("another setup", (run.stderr, run.returncode), ("hhm: settings: SnapshotDiffers\n", 2))
+    told = "hhm: settings: SnapshotDiffers (max-batches: the file has 2, 1 was given)\n"
+    check("another setup", (run.stderr, run.returncode), (told, 2))
 
 
 def program(*words):

@@ -361,7 +361,8 @@ def flipped_bits_are_told():
     other = bytearray(program.snapshot([(7, 1, [(0, 0, 5)])], 5, past=program.NONE, version=2))
     other[19] ^= 1 << 4
     write(path, other)
-    check("another setup", run(words), ("", "hhm: settings: SnapshotDiffers\n", 2))
+    told = "hhm: settings: SnapshotDiffers (rows: the file has 19, 3 was given)\n"
+    check("another setup", run(words), ("", told, 2))
 
 
 def no_output_is_taken():

@@ -354,9 +354,7 @@ APART = [
     ([FIVE], log([[THREE]], [entry_of(FIVE)]) + block(2, [FIVE]), "log: NotFresh at batch 2", 3),
     (None, log([[(7, n, [(0, 0, 60)]) for n in range(2)]]), "log: NotFresh at batch 1", 3),
     (None, log([[(7, n, []) for n in range(11)]]), "log: NotFresh at batch 10", 3),
-    (None, log([[FIVE]], setup=log_bytes.Setup(limit=101)), "settings: LogDiffers", 2),
-    (None, log([[FIVE]], setup=log_bytes.Setup(cuts=(2, 5))), "settings: LogDiffers", 2),
-    (None, log([[FIVE]], setup=log_bytes.Setup(rows=4)), "settings: LogDiffers", 2),
+    (None, log([[FIVE]], setup=log_bytes.Setup(rows=4)), "settings: LogDiffers (rows: the file has 4, 3 was given)", 2),
     ([FIVE], log([[FIVE]], setup=log_bytes.Setup(rows=4)), "settings: LogDiffers", 2),
 ]
 
@@ -371,10 +369,28 @@ def snapshots_and_logs_that_differ_are_told():
             write(snap, before)
         wanted = ("", f"hhm: {fault}\n", status)
         check(f"{fault}, {place}", started("--snapshot", snap, "--log", path), wanted)
-        if fault != "settings: LogDiffers" or before is not None:
+        if not fault.endswith(" was given)"):
             check(f"{fault}, {place}: check", hhm("check", snap, "--log", path), wanted)
         check(f"{fault}, {place}: the log", content(path), held)
         check(f"{fault}, {place}: the snapshot", content(snap) if os.path.exists(snap) else None, before)
+
+
+def a_log_of_another_setup_goes_on():
+    """Where its limit, cuts, shards or most batches aren't those that are given, its head has these after a start."""
+    path, snap = in_folder("other.log"), in_folder("other.snap")
+    for other in ({"limit": 101}, {"cuts": (2, 5)}, {"shards": 3}, {"most": 11}):
+        held = log([[FIVE]], setup=log_bytes.SMALL._replace(**other))
+        write(path, held)
+        check(f"{other}: alone", started("--log", path), stopped(1, 5))
+        check(f"{other}: alone, the log", in_log(path), log([[FIVE]]))
+        for before in (None, snapshot_of([FIVE])):
+            write(path, held)
+            if before is not None:
+                write(snap, before)
+            check(f"{other}: beside a snapshot", started("--snapshot", snap, "--log", path), stopped(1, 5))
+            check(f"{other}: beside a snapshot, the log", in_log(path), head([entry_of(FIVE)]))
+            check(f"{other}: beside a snapshot, the snapshot", in_snap(snap), snapshot_of([FIVE]))
+            os.remove(snap)
 
 
 def a_lost_snapshot_is_a_gap():
@@ -681,9 +697,10 @@ def settings_come_first():
     check("a bad log", started("--log", path), ("", "hhm: log: Truncated at page 0\n", 3))
     full = ["serve", "--unix", server.FOLDER, *SMALL, "--log", path]
     check("an address that can't be had", hhm(*full), ("", "hhm: log: Truncated at page 0\n", 3))
-    write(path, log([[FIVE], [THREE]], setup=log_bytes.Setup(most=11)))
-    write(snap, program.snapshot([FIVE], 5, past=program.NONE, most=12))
-    check("both of other setups", started(*words), ("", "hhm: settings: SnapshotDiffers\n", 2))
+    write(path, log([[FIVE], [THREE]], setup=log_bytes.Setup(rows=5)))
+    write(snap, program.snapshot([FIVE], 5, rows=4, past=program.NONE))
+    told = "hhm: settings: SnapshotDiffers (rows: the file has 4, 3 was given)\n"
+    check("both of other setups", started(*words), ("", told, 2))
 
 
 def run_each(*tests):
@@ -710,6 +727,7 @@ def all_are_tried():
         a_hole_at_the_end_is_not_read,
         damage_is_told_and_stays,
         snapshots_and_logs_that_differ_are_told,
+        a_log_of_another_setup_goes_on,
         a_lost_snapshot_is_a_gap,
         logs_beside_longer_and_shorter_snapshots,
         a_fold_between_two_starts,

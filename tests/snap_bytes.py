@@ -116,11 +116,13 @@ class FirstFault(Exception):
 class Snapshot:
     """What docs/FORMATS.md says of bytes, field after field: the line of `check`, or a `FirstFault`.
 
-    `fields` has the name of each field that was read, and where its bytes are; `origin` says whose the file is.
+    `fields` has the name of each field that was read, and where its bytes are; `origin` says whose the file is, and
+    `entries` has client, number, cells and total of each batch.
     """
 
     def __init__(self, held):
         self.held, self.at, self.fields = held, 0, []
+        self.checked, self.value, self.entries = 0, 0, []
         self.head()
         self.check()
         self.sum, self.places, self.pairs, self.folded = 0, {}, set(), 0
@@ -148,7 +150,8 @@ class Snapshot:
     def check(self):
         """The checksum of all bytes before it, from version 3 on."""
         if self.version >= 3:
-            due = crc32c(self.held[: self.at])
+            due = crc32c(self.held[self.checked : self.at], self.value)
+            self.checked, self.value = self.at, due
             self.take("checksum", 4, lambda value: value == due, "BadCheck")
 
     def head(self):
@@ -175,23 +178,26 @@ class Snapshot:
         client = self.take("client", 8, lambda _: True)
         number = self.take("number", 8, lambda value: (client, value) not in self.pairs, "RepeatedNumber")
         self.pairs.add((client, number))
+        return client, number
 
     def past(self):
         self.folded = self.take("folded", 8, lambda value: value + self.count <= self.most, "BadHead")
         totals = 0
         for _ in range(self.folded):
-            self.pair()
-            self.take("folded cells", 8, lambda _: True)
+            pair, count = self.pair(), self.take("folded cells", 8, lambda _: True)
             left = self.total - totals
-            totals += self.take("folded total", 8, lambda value, left=left: value <= left, "TotalDiffers")
+            total = self.take("folded total", 8, lambda value, left=left: value <= left, "TotalDiffers")
+            self.entries.append((*pair, count, total))
+            totals += total
         self.cells(self.take("base", 8, lambda value: self.folded or value == 0, "BadBatch"), totals)
         if self.sum != totals:
             raise FirstFault("TotalDiffers")
 
     def batches(self):
         for _ in range(self.count):
-            self.pair()
-            self.cells(self.take("entries", 8, lambda _: True), self.total)
+            pair, count, before = self.pair(), self.take("entries", 8, lambda _: True), self.sum
+            self.cells(count, self.total)
+            self.entries.append((*pair, count, self.sum - before))
             self.check()
 
     def cells(self, count, most):
