@@ -1,5 +1,5 @@
 -- What was accepted, under a setup that allows more.
-use Rattle.std.proofs.Common.{◌≡◌, ◌≢◌, ℕ, zero, suc, ◌+◌, ◌<◌, ◌≤◌, Bool, true, false, cond, List, [], ◌∷◌, ◌++◌, map, length, take, drop}
+use Rattle.std.proofs.Common.{◌≡◌, ◌≢◌, inl, inr, ℕ, zero, suc, ◌+◌, ◌<◌, ◌≤◌, Bool, true, false, cond, List, [], ◌∷◌, ◌++◌, map, length, take, drop}
 use Rattle.std.proofs.Common.{Option, None, Some, slice_get, position, get_or, refl, sym, ◌∙◌, ap, subst, arith}
 use Rattle.std.specs.Prelude.{nat_lt, nat_le, if◌then◌else◌}
 use Rattle.std.specs.List.{IsDistinct}
@@ -14,14 +14,17 @@ use Rattle.batch_store.specs.declared.verdict.Entry.{Entry}
 use Rattle.batch_store.specs.declared.verdict.Verdict.{Verdict}
 use Rattle.batch_store.specs.declared.verdict.Verdict.TheVariants.{Fresh, OverTotal, BookFull}
 use Rattle.batch_store.specs.declared.fault.GrowthFault.{GrowthFault}
-use Rattle.batch_store.specs.declared.fault.GrowthFault.TheVariants.{Rows, Cols, Limit, Batches, Memory}
+use Rattle.batch_store.specs.declared.fault.GrowthFault.TheVariants.{TooSmall, Memory}
+use Rattle.batch_store.specs.declared.misfit.Misfit.{Misfit}
+use Rattle.batch_store.specs.declared.misfit.Number.{Number}
 use Rattle.batch_store.specs.Setups.{Setting, IsSetting}
 use Rattle.batch_store.specs.Batches.{Submission, submission, batch_total, entry_of, entries_of, values}
 use Rattle.batch_store.specs.Verdicts.{AllFresh, verdict_of, verdict_at, same_pair, total_of_entries}
-use Rattle.batch_store.specs.Accepted.{Accepted, entries_in, total_in, list_sum, summed}
+use Rattle.batch_store.specs.Accepted.{Accepted, count_in, entries_in, total_in, list_sum, summed}
 use Rattle.batch_store.specs.Books.{Listing, listing, accepted_in, AreAccepted, HaveDims, list_total}
 use Rattle.batch_store.proofs.VerdictLaws.{total_of-append}
-use Rattle.batch_store.specs.Growth.{AllLieIn, AllowsNoLess, FitsIn, IsRoomFor, LiesIn, RefusesGrowth, widened, all_widened, grown_to}
+use Rattle.batch_store.specs.Growth.{AllLieIn, AllowsNoLess, FitsIn, IsBelow, IsGrowthMisfit, IsRoomFor, LiesIn}
+use Rattle.batch_store.specs.Growth.{RefusesGrowth, widened, all_widened, grown_to}
 
 -- ---- verdicts
 
@@ -189,31 +192,44 @@ accepted_under s t v fits allows sound held =
 
 -- ---- one outcome
 
+no_misfit : (to from : Setting) (a : Accepted) (m : Misfit) → IsRoomFor to from a → IsGrowthMisfit from to a m → ⊥
+no_misfit to from a m room (inl (inl h)) = omega (arith, h.1.below, room.fits.rows)
+no_misfit to from a m room (inl (inr h)) = omega (arith, h.2.below, room.fits.cols)
+no_misfit to from a m room (inr (fits, inl h)) = omega (arith, h.1.below, room.within)
+no_misfit to from a m room (inr (fits, inr h)) = omega (arith, h.2.below, room.few)
+
 pub no_growth_fault : (to from : Setting) (a : Accepted) (f : GrowthFault) → f ≢ Memory → IsRoomFor to from a →
     RefusesGrowth to from a f → ⊥
-no_growth_fault to from a (Rows has) n room h = omega (arith, h.0, room.fits.rows)
-no_growth_fault to from a (Cols has) n room h = omega (arith, h.1, room.fits.cols)
-no_growth_fault to from a (Limit has) n room h = omega (arith, h.1, room.within)
-no_growth_fault to from a (Batches has) n room h = omega (arith, h.2, room.few)
+no_growth_fault to from a (TooSmall m) n room h = no_misfit to from a m room h
 no_growth_fault to from a Memory n room h = n refl
+
+same_misfit : (m n : Misfit) (number : Number) (has given : ℕ) → m.number ≡ number → n.number ≡ number →
+    IsBelow m has given → IsBelow n has given → m ≡ n
+same_misfit m n number has given p q x y = λ i. record {
+  number = (p ∙ sym q) i;
+  has = (x.has_is ∙ sym y.has_is) i;
+  given = (x.given_is ∙ sym y.given_is) i;
+}
+
+one_misfit : (to from : Setting) (a : Accepted) (m n : Misfit) → IsGrowthMisfit from to a m →
+    IsGrowthMisfit from to a n → m ≡ n
+one_misfit to from a m n (inl (inl x)) (inl (inl y)) = same_misfit m n _ from.rows to.rows x.0 y.0 x.1 y.1
+one_misfit to from a m n (inl (inl x)) (inl (inr y)) = absurd (omega (arith, x.1.below, y.0))
+one_misfit to from a m n (inl (inl x)) (inr y) = absurd (omega (arith, x.1.below, y.0.rows))
+one_misfit to from a m n (inl (inr x)) (inl (inl y)) = absurd (omega (arith, x.0, y.1.below))
+one_misfit to from a m n (inl (inr x)) (inl (inr y)) = same_misfit m n _ from.cols to.cols x.1 y.1 x.2 y.2
+one_misfit to from a m n (inl (inr x)) (inr y) = absurd (omega (arith, x.2.below, y.0.cols))
+one_misfit to from a m n (inr x) (inl (inl y)) = absurd (omega (arith, x.0.rows, y.1.below))
+one_misfit to from a m n (inr x) (inl (inr y)) = absurd (omega (arith, x.0.cols, y.2.below))
+one_misfit to from a m n (inr (fits, inl x)) (inr (room, inl y)) =
+    same_misfit m n _ (total_in a) to.limit x.0 y.0 x.1 y.1
+one_misfit to from a m n (inr (fits, inl x)) (inr (room, inr y)) = absurd (omega (arith, x.1.below, y.0))
+one_misfit to from a m n (inr (fits, inr x)) (inr (room, inl y)) = absurd (omega (arith, x.0, y.1.below))
+one_misfit to from a m n (inr (fits, inr x)) (inr (room, inr y)) =
+    same_misfit m n _ (count_in a) to.max_batches x.1 y.1 x.2 y.2
 
 pub one_growth_fault : (to from : Setting) (a : Accepted) (f g : GrowthFault) → f ≢ Memory → g ≢ Memory →
     RefusesGrowth to from a f → RefusesGrowth to from a g → f ≡ g
 one_growth_fault to from a Memory g n m x y = absurd (n refl)
 one_growth_fault to from a f Memory n m x y = absurd (m refl)
-one_growth_fault to from a (Rows has) (Rows other) n m x y = ap Rows (x.1 ∙ sym y.1)
-one_growth_fault to from a (Rows has) (Cols other) n m x y = absurd (omega (arith, x.0, y.0))
-one_growth_fault to from a (Rows has) (Limit other) n m x y = absurd (omega (arith, x.0, y.0.rows))
-one_growth_fault to from a (Rows has) (Batches other) n m x y = absurd (omega (arith, x.0, y.0.rows))
-one_growth_fault to from a (Cols has) (Rows other) n m x y = absurd (omega (arith, x.0, y.0))
-one_growth_fault to from a (Cols has) (Cols other) n m x y = ap Cols (x.2 ∙ sym y.2)
-one_growth_fault to from a (Cols has) (Limit other) n m x y = absurd (omega (arith, x.1, y.0.cols))
-one_growth_fault to from a (Cols has) (Batches other) n m x y = absurd (omega (arith, x.1, y.0.cols))
-one_growth_fault to from a (Limit has) (Rows other) n m x y = absurd (omega (arith, x.0.rows, y.0))
-one_growth_fault to from a (Limit has) (Cols other) n m x y = absurd (omega (arith, x.0.cols, y.1))
-one_growth_fault to from a (Limit has) (Limit other) n m x y = ap Limit (x.2 ∙ sym y.2)
-one_growth_fault to from a (Limit has) (Batches other) n m x y = absurd (omega (arith, x.1, y.1))
-one_growth_fault to from a (Batches has) (Rows other) n m x y = absurd (omega (arith, x.0.rows, y.0))
-one_growth_fault to from a (Batches has) (Cols other) n m x y = absurd (omega (arith, x.0.cols, y.1))
-one_growth_fault to from a (Batches has) (Limit other) n m x y = absurd (omega (arith, x.1, y.1))
-one_growth_fault to from a (Batches has) (Batches other) n m x y = ap Batches (x.3 ∙ sym y.3)
+one_growth_fault to from a (TooSmall x) (TooSmall y) n m p q = ap TooSmall (one_misfit to from a x y p q)

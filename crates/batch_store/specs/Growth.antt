@@ -6,16 +6,27 @@
 --     all_widened s list  so each batch of a list
 --     grown_to s v        the same list: the same clients, numbers and counts, in matrices of the setup's dimensions
 --     IsRoomFor to from a what was accepted under `from` is accepted under `to`
+--     IsBelow m has given the number of a misfit has this, and less was given
+--     IsDimMisfit from to m
+--                         the second setup has fewer rows than the first, or no fewer rows and fewer columns
+--     IsGrowthMisfit from to a m
+--                         or neither, and its limit is below the accepted total; or that neither, and there are more
+--                         batches than its most
 --     RefusesGrowth to from a f
---                         by cases: why it isn't, and that no earlier fault holds
-use Rattle.std.specs.Prelude.{◌≡◌, ℕ, ◌<◌, ◌≤◌, List, map, slice_get, Some}
+--                         by cases: why it isn't accepted
+--     given_over g f      each number that was given, and else that of the second setup
+--     with_dims v f       a setup with the rows and columns of another
+use Rattle.std.specs.Prelude.{◌≡◌, ◌⊎◌, ℕ, ◌<◌, ◌≤◌, List, map, slice_get, Some, if◌then◌else◌}
 use Rattle.hyper_matrix.specs.Matrix.{matrix}
-use Rattle.batch_store.specs.Setups.{Setting}
+use Rattle.batch_store.specs.Setups.{Setting, setting}
 use Rattle.batch_store.specs.Batches.{Submission, submission}
 use Rattle.batch_store.specs.Accepted.{Accepted, count_in, total_in}
 use Rattle.batch_store.specs.Books.{Listing, listing}
 use Rattle.batch_store.specs.declared.fault.GrowthFault.{GrowthFault}
-use Rattle.batch_store.specs.declared.fault.GrowthFault.TheVariants.{Rows, Cols, Limit, Batches, Memory}
+use Rattle.batch_store.specs.declared.fault.GrowthFault.TheVariants.{TooSmall, Memory}
+use Rattle.batch_store.specs.declared.given_numbers.GivenNumbers.{GivenNumbers}
+use Rattle.batch_store.specs.declared.misfit.Misfit.{Misfit}
+use Rattle.batch_store.specs.declared.misfit.Number.TheVariants.{Rows, Cols, Limit, MaxBatches}
 
 pub record FitsIn (from to : Setting) : Type 0 where
   pub rows : from.rows ≤ to.rows
@@ -45,10 +56,32 @@ pub record IsRoomFor (to from : Setting) (a : Accepted) : Type 0 where
   pub within : total_in a ≤ to.limit
   pub few : count_in a ≤ to.max_batches
 
+pub record IsBelow (m : Misfit) (has given : ℕ) : Type 0 where
+  pub has_is : m.has ≡ has
+  pub given_is : m.given ≡ given
+  pub below : given < has
+
+abbrev pub IsDimMisfit : Setting → Setting → Misfit → Type 0
+IsDimMisfit from to m =
+    ((m.number ≡ Rows) × IsBelow m from.rows to.rows)
+    ⊎ ((from.rows ≤ to.rows) × (m.number ≡ Cols) × IsBelow m from.cols to.cols)
+
+abbrev pub IsLimitMisfit : Setting → Accepted → Misfit → Type 0
+IsLimitMisfit to a m =
+    ((m.number ≡ Limit) × IsBelow m (total_in a) to.limit)
+    ⊎ ((total_in a ≤ to.limit) × (m.number ≡ MaxBatches) × IsBelow m (count_in a) to.max_batches)
+
+abbrev pub IsGrowthMisfit : Setting → Setting → Accepted → Misfit → Type 0
+IsGrowthMisfit from to a m = IsDimMisfit from to m ⊎ (FitsIn from to × IsLimitMisfit to a m)
+
 abbrev pub RefusesGrowth : Setting → Setting → Accepted → GrowthFault → Type 0
-RefusesGrowth to from a (Rows has) = (to.rows < from.rows) × (has ≡ from.rows)
-RefusesGrowth to from a (Cols has) = (from.rows ≤ to.rows) × (to.cols < from.cols) × (has ≡ from.cols)
-RefusesGrowth to from a (Limit has) = FitsIn from to × (to.limit < total_in a) × (has ≡ total_in a)
-RefusesGrowth to from a (Batches has) =
-    FitsIn from to × (total_in a ≤ to.limit) × (to.max_batches < count_in a) × (has ≡ count_in a)
+RefusesGrowth to from a (TooSmall m) = IsGrowthMisfit from to a m
 RefusesGrowth to from a Memory = IsRoomFor to from a
+
+abbrev pub given_over : GivenNumbers → Setting → Setting
+given_over g f = setting (if g.rows then g.setup.rows else f.rows) (if g.cols then g.setup.cols else f.cols)
+    (if g.cuts then g.setup.cuts else f.cuts) (if g.shards then g.setup.shards else f.shards)
+    (if g.limit then g.setup.limit else f.limit) (if g.max_batches then g.setup.max_batches else f.max_batches)
+
+abbrev pub with_dims : Setting → Setting → Setting
+with_dims v f = setting f.rows f.cols v.cuts v.shards v.limit v.max_batches

@@ -1,5 +1,6 @@
 //! Why a setup, a batch or the step of a shard is refused.
 
+use crate::misfit::Misfit;
 use thiserror::Error;
 
 /// Why `Setup::new` made no setup. The faults are judged in this order.
@@ -68,23 +69,24 @@ pub enum ShardFault {
     Over,
 }
 
-/// Why what was accepted under one setup isn't what another accepts. The faults are judged in this order, and `Memory`
-/// last. `has` is what the list or its setup has.
+/// Why what was accepted under one setup isn't what another accepts. `Memory` is the last to be judged.
 #[derive(Clone, Copy, Debug, PartialEq, Eq, Error)]
 pub enum GrowthFault {
-    /// The setup has fewer rows than the matrices.
-    #[error("the matrices have {has} rows")]
-    Rows { has: u64 },
-    /// The setup has fewer columns than the matrices.
-    #[error("the matrices have {has} columns")]
-    Cols { has: u64 },
-    /// The accepted total passes the limit.
-    #[error("the accepted total is {has}")]
-    Limit { has: u64 },
-    /// More batches were accepted than the setup allows.
-    #[error("{has} batches were accepted")]
-    Batches { has: u64 },
+    /// The first number that is too small: rows, columns, the limit, the most batches.
+    #[error("{0}")]
+    TooSmall(Misfit),
     /// A growth was refused.
     #[error("no memory for the matrices")]
     Memory,
+}
+
+impl From<Misfit> for GrowthFault {
+    ghost use Rattle.std.specs.Prelude.{◌≡◌};
+    ghost use Rattle.batch_store.specs.declared.fault.GrowthFault.TheVariants.{TooSmall};
+
+    ghost from_gives = { λ misfit fault. fault ≡ TooSmall misfit };
+
+    fn from(misfit: Misfit) -> GrowthFault {
+        GrowthFault::TooSmall(misfit)
+    }
 }

@@ -1,15 +1,17 @@
 //! What was accepted under one setup, for a setup of other numbers.
-ghost use Rattle.std.specs.Prelude.{◌≡◌, ℕ, ◌+◌, ◌<◌, ◌≤◌, ◌^◌, IfOk, IfErr, OnOk};
+ghost use Rattle.std.specs.Prelude.{◌≡◌, ◌↔◌, ℕ, ◌+◌, ◌<◌, ◌≤◌, ◌^◌, IfOk, IfErr, OnOk, true};
 ghost use Rattle.std.specs.Arc.{arc_value};
 ghost use Rattle.hyper_matrix.specs.Matrix.{matrix};
 ghost use Rattle.batch_store.specs.Accepted.{count_in, total_in};
 ghost use Rattle.batch_store.specs.Batches.{values};
 ghost use Rattle.batch_store.specs.Books.{AreAccepted, accepted_in, list_total};
-ghost use Rattle.batch_store.specs.Growth.{AllLieIn, IsRoomFor, RefusesGrowth, all_widened, grown_to, widened};
+ghost use Rattle.batch_store.specs.Growth.{AllLieIn, FitsIn, IsDimMisfit, IsGrowthMisfit, IsLimitMisfit, IsRoomFor};
+ghost use Rattle.batch_store.specs.Growth.{RefusesGrowth, all_widened, grown_to, widened};
 
 use crate::batch::Batch;
 use crate::book_list::BookList;
 use crate::fault::GrowthFault;
+use crate::misfit::{Misfit, Number};
 use crate::setup::Setup;
 use hyper_matrix::Hyper;
 use std::alloc::{AllocError, Global};
@@ -97,30 +99,82 @@ fn count_of(list: &BookList) -> u64
     list.folded.len() as u64 + list.batches.len() as u64
 }
 
-// Whether what a list has is accepted under the second setup too.
-fn judge_growth(list: &BookList, from: &Setup, to: &Setup) -> Result<(), GrowthFault>
-    requires { AreAccepted from.now (accepted_in list.now) }
-    ensures ok { OnOk result (IsRoomFor to.now from.now (accepted_in list.now)) }
-    ensures err { IfErr result (RefusesGrowth to.now from.now (accepted_in list.now)) }
+impl Setup {
+    /// Judges whether matrices of another setup's dimensions fit into those of this one.
+    ///
+    /// # Errors
+    ///
+    /// There are fewer rows; or there aren't, and fewer columns.
+    pub fn judge_dims(&self, from: &Setup) -> Result<(), Misfit>
+        ensures ok { OnOk result (FitsIn from.now self.now) }
+        ensures err { IfErr result (IsDimMisfit from.now self.now) }
+    {
+        if self.rows() < from.rows() {
+            return Err(Misfit {
+                number: Number::Rows,
+                has: from.rows(),
+                given: self.rows(),
+            });
+        }
+        if self.cols() < from.cols() {
+            return Err(Misfit {
+                number: Number::Cols,
+                has: from.cols(),
+                given: self.cols(),
+            });
+        }
+        Ok(())
+    }
+
+    /// Whether two setups have the same values.
+    pub fn is_same(&self, other: &Setup) -> bool
+        ensures { (result ≡ true) ↔ (self.now ≡ other.now) }
+    {
+        self.rows() == other.rows()
+            && self.cols() == other.cols()
+            && self.cuts() == other.cuts()
+            && self.shards() == other.shards()
+            && self.limit() == other.limit()
+            && self.max_batches() == other.max_batches()
+    }
+}
+
+// Judges the total and the batches of a list by the limits of a setup.
+fn judge_limits(list: &BookList, to: &Setup) -> Result<(), Misfit>
+    requires { total_in (accepted_in list.now) < 2 ^ 64 }
+    ensures within { OnOk result (total_in (accepted_in list.now) ≤ to.now.limit) }
+    ensures few { OnOk result (count_in (accepted_in list.now) ≤ to.now.max_batches) }
+    ensures err { IfErr result (IsLimitMisfit to.now (accepted_in list.now)) }
 {
-    // It bounds the total.
-    let _limit = from.limit();
-    let (rows, cols) = (from.rows(), from.cols());
-    if to.rows() < rows {
-        return Err(GrowthFault::Rows { has: rows });
-    }
-    if to.cols() < cols {
-        return Err(GrowthFault::Cols { has: cols });
-    }
     let total = total_of(list);
     if to.limit() < total {
-        return Err(GrowthFault::Limit { has: total });
+        return Err(Misfit {
+            number: Number::Limit,
+            has: total,
+            given: to.limit(),
+        });
     }
     let count = count_of(list);
     if to.max_batches() < count {
-        return Err(GrowthFault::Batches { has: count });
+        return Err(Misfit {
+            number: Number::MaxBatches,
+            has: count,
+            given: to.max_batches(),
+        });
     }
     Ok(())
+}
+
+// Judges whether what a list has is accepted under the second setup too.
+fn judge_growth(list: &BookList, from: &Setup, to: &Setup) -> Result<(), Misfit>
+    requires { AreAccepted from.now (accepted_in list.now) }
+    ensures ok { OnOk result (IsRoomFor to.now from.now (accepted_in list.now)) }
+    ensures err { IfErr result (IsGrowthMisfit from.now to.now (accepted_in list.now)) }
+{
+    // It bounds the total.
+    let _limit = from.limit();
+    to.judge_dims(from)?;
+    judge_limits(list, to)
 }
 
 // A list in matrices of the setup's dimensions.
@@ -148,8 +202,8 @@ impl BookList {
     ///
     /// # Errors
     ///
-    /// The first fault that holds, in the order of `GrowthFault`, each with what the list has. `Memory` only where none
-    /// holds. The list is gone then.
+    /// The first number of the second setup that is too small, with what the list has. `Memory` only where none is. The
+    /// list is gone then.
     pub fn grown(self, alloc: Global, from: &Setup, to: &Setup) -> Result<BookList, GrowthFault>
         requires accepted { AreAccepted from.now (accepted_in self) }
         requires rows { self.base.rows ≡ from.now.rows }

@@ -24,12 +24,14 @@ mod fault;
 mod fold_place;
 mod folded;
 mod given;
+mod given_numbers;
 mod growth;
 mod growth_laws;
 mod laws;
 mod limits;
 mod line;
 mod listed;
+mod misfit;
 mod pair;
 mod part;
 mod setup;
@@ -46,6 +48,7 @@ pub use book_fold::BookFold;
 pub use book_list::BookList;
 pub use fault::{BatchFault, CellsFault, GrowthFault, SetupFault, ShardFault};
 pub use fold_place::ShardFold;
+pub use given_numbers::{GivenNumbers, with_dims};
 pub use growth_laws::{
     a_growth_has_one_outcome, grown_lists_keep_all, larger_setups_answer_the_same,
     lists_grow_to_the_last,
@@ -57,6 +60,7 @@ pub use laws::{
 };
 pub use layer_cascade::Compaction;
 pub use limits::{MAX_BATCHES, MAX_CELLS, MAX_SHARDS};
+pub use misfit::{Misfit, Number};
 pub use setup::Setup;
 pub use shard::{Prepared, ReleasedRecord, Shard};
 pub use verdict::{Entry, Kept, Verdict};

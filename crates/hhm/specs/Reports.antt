@@ -87,12 +87,16 @@ check_status (check.Join fault) = 3
 abbrev pub fold_status : FoldFault → ℕ
 fold_status (fold.File fault) = file_status fault
 fold_status fold.Memory = 5
+fold_status (fold.TooSmall misfit) = 2
+fold_status fold.NeedsLog = 2
 fold_status (fold.Save fault) = 4
 fold_status (fold.Output fault) = 4
 
 abbrev pub make_status : MakeFault → ℕ
 make_status (make.Read fault) = check_status fault
 make_status make.HasWindow = 3
+make_status (make.TooSmall misfit) = 2
+make_status make.NeedsLog = 2
 make_status (make.Save save.Memory) = 5
 make_status (make.Save fault) = 4
 make_status (make.Output fault) = 4

@@ -2,7 +2,7 @@
 
 use crate::export_cli::export_command;
 use crate::query_cli::{degrees_command, list_command, top_command};
-use crate::serve_cli::serve_command;
+use crate::serve_cli::{serve_command, with_numbers};
 use clap::builder::ValueParser;
 use clap::{Arg, ArgAction, Command};
 use server_counters::VERSION;
@@ -87,10 +87,18 @@ With --to the fold is made in the file OUT, a copy of the same book, and PATH
 and the log stay as they are; no lock is taken. With --log, or where PATH goes
 with a log, OUT goes with that log too, and starts with it alone.
 
+Numbers of rows, columns, cuts, shards and limits that aren't given are those of
+the file. Given ones may differ as at a start: rows and columns may be more, the
+limits any that all batches fit, cuts and shards any. Where PATH goes with a log,
+other numbers need that log too.
+
 A fault is one line on standard error. Where the output failed, the file is
 saved already; else it is as it was (after Rename it may be saved):
 
   hhm: settings: BadPath (PATH), (LOG), (OUT)  status 2 (it ends in .new or .lock)
+  hhm: settings: BadNumber, BadDimension, BadCuts, BadShards, BadLimit, BadBatches  status 2
+  hhm: settings: SnapshotDiffers (NUMBER: the file has N, N was given)  status 2
+  hhm: settings: NeedsLog (PATH: a log goes with it)  status 2
   hhm: settings: LogDiffers        status 2
   hhm: file: Exists (OUT)          status 4
   hhm: file: NotFound, OpenFailed, Busy   status 4
@@ -200,7 +208,7 @@ fn fold_command<'a>(alloc: Global) -> Result<Command<'a>, AllocError> {
         .value_parser(ValueParser::NonEmptyString)
         .help("The file to make in place of PATH, where nothing may be");
     let fold = snapshot_command(alloc, "fold", FOLD_ABOUT, FOLD_HELP)?;
-    fold.arg(log)?.arg(to)
+    with_numbers(alloc, fold.arg(log)?.arg(to)?)
 }
 
 // `fork`, which makes a file.

@@ -17,6 +17,7 @@ mod query_cli;
 mod report;
 mod serve;
 mod serve_cli;
+mod streams;
 mod sum_files;
 mod told;
 
@@ -25,9 +26,11 @@ use crate::memory::keep_freed_memory;
 use crate::numbers::read_list;
 use crate::query::{range_of, side_of, top_query_of};
 use crate::report::Fault;
-use crate::serve::{has_one_place, settings_of, status_of};
+use crate::serve::{has_one_place, numbers_of, settings_of, status_of};
+use crate::streams::ClosedStreams;
 use crate::sum_files::{NamedTexts, has_input, is_input_alone, place_of};
 use crate::told::run_told;
+use batch_store::GivenNumbers;
 use byte_io::{Counted, write_all};
 use clap::error::ErrorKind;
 use clap::{ArgMatches, Error};
@@ -60,6 +63,7 @@ enum Outcome {
 }
 
 fn main(rt: HostRuntime) -> ExitCode {
+    let _streams = ClosedStreams::take(&rt);
     match run(&rt) {
         Ok(Outcome::Ended(code)) => code,
         Ok(Outcome::Serve(settings)) => {
@@ -341,6 +345,7 @@ fn run_check_word(
 /// Folds the snapshot under a path, and the log beside it where one is named, into that file or a new one. How far the
 /// reading of the snapshot has come is said on a terminal.
 fn run_fold_word(rt: &HostRuntime, given: &ArgMatches) -> Result<(), Fault> {
+    let numbers = numbers_of(rt.alloc(), given)?;
     let path = path_to_read(rt, given.get_str("path").unwrap_or(""), Fault::BadPath)?;
     let log = match given.get_str("log") {
         Some(log) => Some(path_to_read(rt, log, Fault::BadLog)?),
@@ -349,9 +354,9 @@ fn run_fold_word(rt: &HostRuntime, given: &ArgMatches) -> Result<(), Fault> {
     let log_path = log.as_ref().map(String::as_str);
     let mut line = progress_line(rt, rt.stderr().is_terminal(), Entries::Cells);
     let outcome = match (given.get_str("to"), log_path) {
-        (Some(out_path), _) => fold_to(rt, path.as_str(), log_path, out_path, &mut line),
-        (None, Some(log_path)) => fold_with_log(rt, path.as_str(), log_path, &mut line),
-        (None, None) => fold(rt, path.as_str(), &mut line),
+        (Some(out_path), _) => fold_to(rt, path.as_str(), log_path, &numbers, out_path, &mut line),
+        (None, Some(log_path)) => fold_with_log(rt, path.as_str(), log_path, &numbers, &mut line),
+        (None, None) => fold(rt, path.as_str(), &numbers, &mut line),
     };
     clear(&mut line);
     outcome
@@ -368,9 +373,15 @@ fn path_to_read(rt: &HostRuntime, path: &str, fault: Fault) -> Result<String, Fa
 }
 
 /// Folds the snapshot under a path in place.
-fn fold(rt: &HostRuntime, path: &str, line: &mut Shown<'_>) -> Result<(), Fault> {
+fn fold(
+    rt: &HostRuntime,
+    path: &str,
+    numbers: &GivenNumbers,
+    line: &mut Shown<'_>,
+) -> Result<(), Fault> {
     let mut out = Counted::new(rt.stdout());
-    run_fold(rt.alloc(), &mut LockedFile::new(rt, path, line), &mut out)?;
+    let mut file = LockedFile::new(rt, path, line);
+    run_fold(rt.alloc(), &mut file, numbers, &mut out)?;
     Ok(())
 }
 
@@ -379,6 +390,7 @@ fn fold_with_log(
     rt: &HostRuntime,
     path: &str,
     log_path: &str,
+    numbers: &GivenNumbers,
     line: &mut Shown<'_>,
 ) -> Result<(), Fault> {
     // Where there is no log nothing is made, and no lock's file either.
@@ -387,7 +399,7 @@ fn fold_with_log(
         None => None,
     };
     let mut new = ReplacedFile::new(rt, path, locks);
-    fold_into(rt, path, log_path, &mut new, line)
+    fold_into(rt, path, log_path, numbers, &mut new, line)
 }
 
 /// Folds a snapshot, and a log where one is named, into a new file.
@@ -395,6 +407,7 @@ fn fold_to(
     rt: &HostRuntime,
     path: &str,
     log_path: Option<&str>,
+    numbers: &GivenNumbers,
     out_path: &str,
     line: &mut Shown<'_>,
 ) -> Result<(), Fault> {
@@ -402,10 +415,10 @@ fn fold_to(
     let Some(log_path) = log_path else {
         let mut out = Counted::new(rt.stdout());
         let mut file = NamedFile::new(rt, path, line);
-        run_fold_to(rt.alloc(), &mut file, &mut new, &mut out)?;
+        run_fold_to(rt.alloc(), &mut file, numbers, &mut new, &mut out)?;
         return Ok(());
     };
-    fold_into(rt, path, log_path, &mut new, line)
+    fold_into(rt, path, log_path, numbers, &mut new, line)
 }
 
 /// Folds a snapshot and a log into a file.
@@ -413,6 +426,7 @@ fn fold_into<N: NewSnapshot>(
     rt: &HostRuntime,
     path: &str,
     log_path: &str,
+    numbers: &GivenNumbers,
     new: &mut N,
     line: &mut Shown<'_>,
 ) -> Result<(), Fault> {
@@ -420,7 +434,7 @@ fn fold_into<N: NewSnapshot>(
     let mut log_line = progress_line(rt, false, Entries::Cells);
     let mut file = NamedFile::new(rt, path, line);
     let mut log = NamedLog::new(rt, log_path, &mut log_line);
-    run_fold_with_log(rt.alloc(), &mut file, &mut log, new, &mut out)?;
+    run_fold_with_log(rt.alloc(), &mut file, &mut log, numbers, new, &mut out)?;
     Ok(())
 }
 

@@ -224,6 +224,8 @@ fn make_status(fault: MakeFault) -> u8
     match fault {
         MakeFault::Read(fault) => check_status(fault),
         MakeFault::HasWindow => 3,
+        MakeFault::TooSmall(_) => 2,
+        MakeFault::NeedsLog => 2,
         MakeFault::Save(SaveFault::Memory) => 5,
         MakeFault::Save(_) => 4,
         MakeFault::Output(_) => 4,
@@ -265,6 +267,8 @@ impl Fault {
             Fault::Fold(FoldFault::File(FileFault::Snap(_))) => 3,
             Fault::Fold(FoldFault::File(_)) => 4,
             Fault::Fold(FoldFault::Memory) => 5,
+            Fault::Fold(FoldFault::TooSmall(_)) => 2,
+            Fault::Fold(FoldFault::NeedsLog) => 2,
             Fault::Fold(FoldFault::Save(_)) => 4,
             Fault::Fold(FoldFault::Output(_)) => 4,
             Fault::Export(fault) => export_status(fault),

@@ -5,11 +5,11 @@ ghost use Rattle.hhm.specs.Serving.{server_status};
 use crate::log_report::status_of_log;
 use crate::numbers::{read_list, read_number};
 use crate::report::Fault;
-use batch_store::Setup;
+use batch_store::{GivenNumbers, Setup};
 use clap::ArgMatches;
 use event_log::{EventLog, Paths};
 use snap_file::{FileFault, SnapFault, folder_of};
-use socket_server::{GivenNumbers, ServerFault, Settings, is_reserved};
+use socket_server::{ServerFault, Settings, is_reserved};
 use std::alloc::{AllocError, Global};
 use std::fs::{self, File};
 use std::num::NonZeroU64;
@@ -95,8 +95,9 @@ fn is_given(matches: &ArgMatches, name: &str) -> bool {
     matches.get_str(name).is_some()
 }
 
-// The numbers of the engine's setup that the options spell. Of rows and columns that aren't given nothing is read.
-fn numbers_of(alloc: Global, matches: &ArgMatches) -> Result<GivenNumbers, Fault> {
+/// The numbers of a setup that the options of `serve` or `fold` spell. Of rows and columns that aren't given nothing is
+/// read.
+pub fn numbers_of(alloc: Global, matches: &ArgMatches) -> Result<GivenNumbers, Fault> {
     let rows = number_or(matches, "rows", 1)?;
     let cols = number_or(matches, "cols", 1)?;
     let shards = number_or(matches, "shards", DEFAULT_SHARDS)?;

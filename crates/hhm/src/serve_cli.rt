@@ -103,8 +103,8 @@ static FLAGS: &[ServeFlag] = &[
     },
 ];
 
-/// Where it listens and saves, the engine's setup, and how it serves.
-static OPTIONS: &[ServeOption] = &[
+/// Where it listens and saves.
+static PLACES: &[ServeOption] = &[
     ServeOption {
         name: "tcp",
         value: "ADDR",
@@ -131,6 +131,10 @@ static OPTIONS: &[ServeOption] = &[
         help: "Write each batch to this log before it is answered, and start from it too",
         ..LEFT_OUT
     },
+];
+
+/// The numbers of a setup, of `fold` too.
+static NUMBERS: &[ServeOption] = &[
     ServeOption {
         name: "rows",
         value: "N",
@@ -146,27 +150,31 @@ static OPTIONS: &[ServeOption] = &[
     ServeOption {
         name: "cuts",
         value: "LIST",
-        help: "The cuts of each shard's layers, rising, at most 7, or none [default: 4096,65536,1048576]",
+        help: "The cuts of each shard's layers, rising, at most 7, or none [default: the files', else 4096,65536,1048576]",
         ..LEFT_OUT
     },
     ServeOption {
         name: "shards",
         value: "N",
-        help: "The number of shards, 1 to 64 [default: 8]",
+        help: "The number of shards, 1 to 64 [default: the files', else 8]",
         ..LEFT_OUT
     },
     ServeOption {
         name: "limit",
         value: "N",
-        help: "The highest accepted total, at least 1 [default: 18446744073709551615]",
+        help: "The highest accepted total, at least 1 [default: the files', else 18446744073709551615]",
         ..LEFT_OUT
     },
     ServeOption {
         name: "max-batches",
         value: "N",
-        help: "The highest number of accepted batches, 1 to 1073741824 [default: 1000000]",
+        help: "The highest number of accepted batches, 1 to 1073741824 [default: the files', else 1000000]",
         ..LEFT_OUT
     },
+];
+
+/// How it serves.
+static OPTIONS: &[ServeOption] = &[
     ServeOption {
         name: "workers",
         value: "N",
@@ -255,14 +263,32 @@ fn files_group<'a>(alloc: Global) -> Result<ArgGroup<'a>, AllocError> {
         .arg("log")
 }
 
-/// The word `serve`.
-pub fn serve_command<'a>(alloc: Global) -> Result<Command<'a>, AllocError> {
-    let mut command = Command::new(alloc, "serve")
-        .about(SERVE_ABOUT)
-        .after_help(SERVE_HELP);
-    for option in OPTIONS {
+// A word with these options more.
+fn with_options<'a>(
+    alloc: Global,
+    word: Command<'a>,
+    options: &'a [ServeOption],
+) -> Result<Command<'a>, AllocError> {
+    let mut command = word;
+    for option in options {
         command = command.arg(arg_of(alloc, option))?;
     }
+    Ok(command)
+}
+
+/// A word with the options of a setup's numbers.
+pub fn with_numbers<'a>(alloc: Global, word: Command<'a>) -> Result<Command<'a>, AllocError> {
+    with_options(alloc, word, NUMBERS)
+}
+
+/// The word `serve`.
+pub fn serve_command<'a>(alloc: Global) -> Result<Command<'a>, AllocError> {
+    let word = Command::new(alloc, "serve")
+        .about(SERVE_ABOUT)
+        .after_help(SERVE_HELP);
+    let places = with_options(alloc, word, PLACES)?;
+    let numbers = with_numbers(alloc, places)?;
+    let mut command = with_options(alloc, numbers, OPTIONS)?;
     for flag in FLAGS {
         command = command.arg(flag_of(alloc, flag)?)?;
     }

@@ -12,7 +12,6 @@ use log_page::PAGE;
 use snap_file::{Identity, SaveFault};
 use std::alloc::Global;
 use std::fs::{self, File};
-use std::io;
 use std::os::unix::fs::FileExt;
 use std::rt::Files;
 use std::sync::Arc;
@@ -39,21 +38,28 @@ fn of_rotation(fault: RotateFault) -> SaveFault {
 /// Why nobody knows the head of a log.
 #[derive(Clone, Copy, Debug, PartialEq, Eq)]
 pub enum HeadFault {
-    /// The file can't be read.
+    /// The file can't be opened.
+    Open,
+    /// The read of its first page has failed.
     Read,
     /// Its first page isn't the head of a log.
     NoLog(LogKind),
 }
 
 // The first page of the file under a path; None where there is no file, or a shorter one.
-fn first_page<R: Files<File = File>>(rt: &R, path: &str) -> io::Result<Option<[u8; PAGE]>> {
+fn first_page<R: Files<File = File>>(rt: &R, path: &str) -> Result<Option<[u8; PAGE]>, HeadFault> {
     match fs::metadata(rt, path) {
         Ok(found) if found.is_file() && found.len() >= PAGE as u64 => {}
         _ => return Ok(None),
     }
+    let Ok(file) = File::open(rt, path) else {
+        return Err(HeadFault::Open);
+    };
     let mut page = [0; PAGE];
-    File::open(rt, path)?.read_exact_at(&mut page, 0)?;
-    Ok(Some(page))
+    match file.read_exact_at(&mut page, 0) {
+        Ok(()) => Ok(Some(page)),
+        Err(_) => Err(HeadFault::Read),
+    }
 }
 
 /// The head of the log under a path; None where there is no file, or one of less than a page.
@@ -67,7 +73,7 @@ pub fn log_head_at<R: Files<File = File>>(
             Err(kind) => Err(HeadFault::NoLog(kind)),
         },
         Ok(None) => Ok(None),
-        Err(_) => Err(HeadFault::Read),
+        Err(fault) => Err(fault),
     }
 }
 
@@ -76,7 +82,7 @@ fn is_of_other<R: Files<File = File>>(rt: &R, path: &str, identity: &Identity) -
     match log_head_at(rt, path) {
         Ok(Some(head)) => identity.is_other(&head.identity),
         Ok(None) | Err(HeadFault::NoLog(_)) => false,
-        Err(HeadFault::Read) => true,
+        Err(HeadFault::Open | HeadFault::Read) => true,
     }
 }
 

@@ -1,5 +1,6 @@
 -- What `fold` says of a snapshot that it has folded, and whose the fold of a snapshot and a log is.
 use Rattle.std.specs.Prelude.{ℕ, List, codes, true}
+use Rattle.batch_store.specs.declared.fault.GrowthFault.{GrowthFault}
 use Rattle.snap_file.specs.Origins.{origin, own}
 use Rattle.snap_file.specs.declared.origin.Identity.{Identity}
 use Rattle.snap_file.specs.declared.origin.Origin.{Origin}
@@ -16,6 +17,10 @@ fold_fault_of_file fault = FoldFault.File fault
 abbrev pub fold_fault_of_save : SaveFault → FoldFault
 fold_fault_of_save SaveFault.Memory = FoldFault.Memory
 fold_fault_of_save fault = FoldFault.Save fault
+
+abbrev pub fold_fault_of_growth : GrowthFault → FoldFault
+fold_fault_of_growth (GrowthFault.TooSmall misfit) = FoldFault.TooSmall misfit
+fold_fault_of_growth GrowthFault.Memory = FoldFault.Memory
 
 -- the line of so many folded batches with this total
 abbrev pub fold_line : ℕ → ℕ → List ℕ

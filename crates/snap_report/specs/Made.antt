@@ -10,13 +10,15 @@
 use Rattle.std.specs.Prelude.{ℕ, List, [], ◌∷◌, ◌++◌, codes, decimal, Result, Ok}
 use Rattle.batch_store.specs.Accepted.{Accepted}
 use Rattle.batch_store.specs.Setups.{Setting}
+use Rattle.batch_store.specs.declared.fault.GrowthFault.{GrowthFault}
 use Rattle.snap_file.specs.Snapshots.{Saved}
 use Rattle.snap_file.specs.declared.fault.FileFault.{FileFault}
 use Rattle.snap_file.specs.declared.fault.SaveFault.{SaveFault}
 use Rattle.snap_file.specs.declared.origin.Origin.{Origin}
 use Rattle.snap_report.specs.Kept.{most_bytes}
 use Rattle.snap_report.specs.declared.making.MakeFault.{MakeFault}
-use Rattle.snap_report.specs.declared.making.MakeFault.TheVariants.{Save, Output}
+use Rattle.snap_report.specs.declared.making.MakeFault.TheVariants.{Read, TooSmall, Save, Output}
+use Rattle.snap_report.specs.declared.fault.CheckFault.TheVariants as check
 
 abbrev pub IsMade : {N : Type 0} → (N → Origin → Setting → Accepted → Result (Unit {0}) SaveFault → N → Type 0) → N →
     N → Origin → Setting → Accepted → Type 0
@@ -24,6 +26,10 @@ IsMade makes s t o v a = makes s o v a (Ok tt) t
 
 abbrev pub made_line : List ℕ → ℕ → ℕ → List ℕ
 made_line word batches total = word ++ decimal batches ++ (codes " total " ++ decimal total) ++ 10 ∷ []
+
+abbrev pub make_fault_of_growth : GrowthFault → MakeFault
+make_fault_of_growth (GrowthFault.TooSmall misfit) = TooSmall misfit
+make_fault_of_growth GrowthFault.Memory = Read check.Memory
 
 abbrev pub LeavesMade : MakeFault → Type 0
 LeavesMade (Save fault) = Unit {0}

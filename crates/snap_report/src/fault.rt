@@ -1,6 +1,7 @@
 //! Why no line, and no text, is written of a snapshot, or why it isn't folded.
 
 use crate::kept_log::LogFileFault;
+use batch_store::{GrowthFault, Misfit};
 use byte_io::WriteFault;
 use log_blocks::{LogFault, LogKind};
 use log_join::JoinFault;
@@ -100,6 +101,12 @@ pub enum FoldFault {
     /// There was no memory: for the batches, for their sum, or for the name of the lock or of the new file.
     #[error("memory")]
     Memory,
+    /// A number that was given is too small for what the file has.
+    #[error("settings: SnapshotDiffers ({0})")]
+    TooSmall(Misfit),
+    /// Other numbers than the file's were given without the log that goes with it: that may have more batches.
+    #[error("settings: NeedsLog (PATH: a log goes with it)")]
+    NeedsLog,
     /// The file could not be saved, as `SaveFault` says, or its lock not be had (`Create`). The fault is never want of
     /// memory.
     #[error(transparent)]
@@ -133,6 +140,20 @@ impl From<SaveFault> for FoldFault {
         match fault {
             SaveFault::Memory => FoldFault::Memory,
             fault => FoldFault::Save(fault),
+        }
+    }
+}
+
+impl From<GrowthFault> for FoldFault {
+    ghost use Rattle.std.specs.Prelude.{◌≡◌};
+    ghost use Rattle.snap_report.specs.Folds.{fold_fault_of_growth};
+
+    ghost from_gives = { λ fault e. e ≡ fold_fault_of_growth fault };
+
+    fn from(fault: GrowthFault) -> FoldFault {
+        match fault {
+            GrowthFault::TooSmall(misfit) => FoldFault::TooSmall(misfit),
+            GrowthFault::Memory => FoldFault::Memory,
         }
     }
 }

@@ -16,7 +16,8 @@ use crate::check::sum_of;
 use crate::fault::FoldFault;
 use crate::limits::SNAPSHOT_BYTES;
 use crate::making::line_of;
-use batch_store::{Batch, BookList, Entry, Setup};
+use crate::refit::{needs_log, refit};
+use batch_store::{Batch, BookList, Entry, GivenNumbers, Setup};
 use byte_io::{Sink, write_all};
 use cells::Cell;
 use hyper_matrix::Hyper;
@@ -80,16 +81,27 @@ pub(crate) fn folded(alloc: Global, setup: &Setup, list: BookList) -> Result<Boo
 }
 
 // Folds the snapshot in a file, and answers how many batches are folded then, and their total.
-fn fold_file<F: SnapshotFile>(alloc: Global, file: &mut F) -> Result<(u64, u64), FoldFault>
-    ensures ok { IfOk result (λ r. (x : Saved) × HasFolded F.load_gives F.save_gives file.old file.new x (Ok tt)
+fn fold_file<F: SnapshotFile>(
+    alloc: Global,
+    file: &mut F,
+    numbers: &GivenNumbers,
+) -> Result<(u64, u64), FoldFault>
+    ensures ok { IfOk result (λ r. (x : Saved)
+        × HasFolded F.load_gives F.save_gives file.old file.new numbers.now x (Ok tt)
         × (r.0 ≡ count_in (accepted_in x.list)) × (r.1 ≡ total_in (accepted_in x.list))) }
-    ensures told { IfErr result (λ fault. IsFoldTold F.load_gives F.save_gives file.old file.new fault) }
+    ensures told { IfErr result (λ fault.
+        IsFoldTold F.load_gives F.save_gives file.old file.new numbers.now fault) }
     ensures unwritten { IfErr result (λ fault. LeavesLine fault → ⊥) }
 {
     let snapshot = file.load(alloc, SNAPSHOT_BYTES)?;
     let origin = snapshot.origin;
-    let setup = snapshot.setup;
-    let list = folded(alloc, &setup, snapshot.list)?;
+    let from = snapshot.setup;
+    let setup = numbers.over(&from);
+    if needs_log(&origin, &from, &setup) {
+        return Err(FoldFault::NeedsLog);
+    }
+    let fitted = refit(alloc, &from, &setup, snapshot.list)?;
+    let list = folded(alloc, &setup, fitted)?;
     file.save(alloc, origin, &setup, &list)?;
     Ok((list.folded.len() as u64, list.base.total()))
 }
@@ -111,7 +123,8 @@ fn write_line<W: Sink>(w: &mut W, batches: u64, total: u64) -> Result<(), FoldFa
 
 /// Reads the snapshot in a file, folds all its batches into its base, saves it in that file, and writes the line
 /// `folded F total T`: how many batches are folded now, and their total. What an engine that is started from it answers
-/// stays as it was, repeats included; the cells of each batch are gone.
+/// stays as it was, repeats included; the cells of each batch are gone. Its setup is that of the file, but for the
+/// numbers that are given.
 ///
 /// Takes the memory of `run_check`: the batches are let go of before their sum is built. Where a server may save to the
 /// file meanwhile, give a `LockedFile`, whose lock is held from before the reading to the end of the save.
@@ -119,26 +132,29 @@ fn write_line<W: Sink>(w: &mut W, batches: u64, total: u64) -> Result<(), FoldFa
 /// # Errors
 ///
 /// `File` where there is no such file, where another may save there (`Busy`), where it can't be opened or read, or
-/// where it is no snapshot; `Memory`; `Save` where the file could not be saved; and `Output` where the line could not
-/// be written whole: the file is saved then.
+/// where it is no snapshot; `Memory`; `NeedsLog` where other numbers are given and a log goes with the file; `TooSmall`
+/// where the file has more than a number allows; `Save` where the file could not be saved; and `Output` where the line
+/// could not be written whole: the file is saved then.
 pub fn run_fold<F: SnapshotFile, W: Sink>(
     alloc: Global,
     file: &mut F,
+    numbers: &GivenNumbers,
     w: &mut W,
 ) -> Result<(), FoldFault>
     requires { W.failure_count w.old + 1 < 2 ^ 64 }
     // One load is made of the file and then one save, of the snapshot that the load has answered, with all its batches
-    // folded. What was written is the line of that snapshot.
-    ensures ok { OnOk result ((x : Saved) × HasFolded F.load_gives F.save_gives file.old file.new x (Ok tt)
+    // folded, under the given numbers. What was written is the line of that snapshot.
+    ensures ok { OnOk result ((x : Saved) × HasFolded F.load_gives F.save_gives file.old file.new numbers.now x (Ok tt)
         × HasTaken W.write_takes W.failure_count w.old w.new
         (fold_line (count_in (accepted_in x.list)) (total_in (accepted_in x.list)))) }
     ensures output { (fault : WriteFault) → result ≡ Err (FoldFault.Output fault) →
-        (x : Saved) × HasFolded F.load_gives F.save_gives file.old file.new x (Ok tt)
+        (x : Saved) × HasFolded F.load_gives F.save_gives file.old file.new numbers.now x (Ok tt)
         × HasStopped W.write_takes W.failure_count w.old w.new
         (fold_line (count_in (accepted_in x.list)) (total_in (accepted_in x.list))) fault.written }
-    ensures told { IfErr result (λ fault. IsFoldTold F.load_gives F.save_gives file.old file.new fault) }
+    ensures told { IfErr result (λ fault.
+        IsFoldTold F.load_gives F.save_gives file.old file.new numbers.now fault) }
     ensures unwritten { IfErr result (λ fault. LeavesLine fault ⊎ (w.new ≡ w.old)) }
 {
-    let (batches, total) = fold_file(alloc, file)?;
+    let (batches, total) = fold_file(alloc, file, numbers)?;
     write_line(w, batches, total)
 }

@@ -3,9 +3,10 @@ ghost use Rattle.std.specs.Prelude.{◌≡◌, ◌⊎◌, ◌+◌, ◌<◌, ◌^
 ghost use Rattle.byte_io.specs.Writing.{HasTaken};
 ghost use Rattle.batch_store.specs.Accepted.{count_in, total_in};
 ghost use Rattle.batch_store.specs.Books.{AreAccepted, accepted_in};
+ghost use Rattle.batch_store.specs.Growth.{given_over};
 ghost use Rattle.snap_file.specs.Snapshots.{HasBase, Saved};
 ghost use Rattle.snap_report.specs.Folds.{both_origin, fold_line};
-ghost use Rattle.snap_report.specs.Kept.{HasLoaded, folded_in};
+ghost use Rattle.snap_report.specs.Kept.{HasLoaded, IsAlone, folded_in};
 ghost use Rattle.snap_report.specs.Logged.{Checked, HasJoined};
 ghost use Rattle.snap_report.specs.Made.{IsLeft, IsMade, LeavesMade};
 
@@ -15,7 +16,8 @@ use crate::kept_log::KeptLog;
 use crate::limits::SNAPSHOT_BYTES;
 use crate::making::{MakeFault, NewSnapshot, make_file, write_made};
 use crate::pair::{both_lists, read_pair};
-use batch_store::{BookList, Setup};
+use crate::refit::{needs_log, refit};
+use batch_store::{BookList, GivenNumbers, Setup};
 use byte_io::Sink;
 use snap_file::{Identity, Origin, Snapshot, SnapshotFile};
 use std::alloc::Global;
@@ -62,18 +64,21 @@ fn origin_of_both(known: Identity, found: Identity) -> Origin
 ///
 /// # Errors
 ///
-/// `Read` where the file can't be read, or there is no memory, `Save` where the new file couldn't be made, and `Output`
-/// where the line couldn't be written whole: the file is made then.
+/// `Read` where the file can't be read, or there is no memory, `NeedsLog` where other numbers are given and a log goes
+/// with the file, `TooSmall` where it has more than a number allows, `Save` where the new file couldn't be made, and
+/// `Output` where the line couldn't be written whole: the file is made then.
 pub fn run_fold_to<F: SnapshotFile, N: NewSnapshot, W: Sink>(
     alloc: Global,
     file: &mut F,
+    numbers: &GivenNumbers,
     new: &mut N,
     w: &mut W,
 ) -> Result<(), MakeFault>
     requires { W.failure_count w.old + 1 < 2 ^ 64 }
-    // What was made is what the one load of the file has answered, with all its batches folded, of the same origin.
-    ensures made { OnOk result ((x : Saved) × HasLoaded F.load_gives file.old file.new x
-        × IsMade N.make_gives new.old new.new x.origin x.setup (folded_in x.list)
+    // What was made is what the one load of the file has answered, with all its batches folded, of the same origin,
+    // under the given numbers.
+    ensures made { OnOk result ((x : Saved) × HasLoaded F.load_gives file.old file.new x × IsAlone numbers.now x
+        × IsMade N.make_gives new.old new.new x.origin (given_over numbers.now x.setup) (folded_in x.list)
         × HasTaken W.write_takes W.failure_count w.old w.new
         (fold_line (count_in (accepted_in x.list)) (total_in (accepted_in x.list)))) }
     ensures left { IsLeft F.load_gives file.old file.new }
@@ -87,7 +92,12 @@ pub fn run_fold_to<F: SnapshotFile, N: NewSnapshot, W: Sink>(
         Ok(snapshot) => snapshot,
         Err(fault) => return Err(MakeFault::Read(CheckFault::from(fault))),
     };
-    make_fold(alloc, origin, &setup, list, new, w)
+    let to = numbers.over(&setup);
+    if needs_log(&origin, &setup, &to) {
+        return Err(MakeFault::NeedsLog);
+    }
+    let fitted = refit(alloc, &setup, &to, list)?;
+    make_fold(alloc, origin, &to, fitted, new, w)
 }
 
 /// The same of a snapshot and a log beside it, which are joined as a start joins them. Where there is no snapshot, what
@@ -98,21 +108,23 @@ pub fn run_fold_to<F: SnapshotFile, N: NewSnapshot, W: Sink>(
 ///
 /// # Errors
 ///
-/// As `run_fold_to`; `Read` also where the log can't be read, or doesn't belong to the snapshot.
+/// As `run_fold_to`, but for `NeedsLog`; `Read` also where the log can't be read, or doesn't belong to the snapshot.
 pub fn run_fold_with_log<F: SnapshotFile, L: KeptLog, N: NewSnapshot, W: Sink>(
     alloc: Global,
     file: &mut F,
     log: &mut L,
+    numbers: &GivenNumbers,
     new: &mut N,
     w: &mut W,
 ) -> Result<(), MakeFault>
     requires { W.failure_count w.old + 1 < 2 ^ 64 }
-    // What was made is the list of both, with all its batches folded. Of the file and of the log it is known that they
-    // were read, and no more.
+    // What was made is the list of both, with all its batches folded, under the given numbers over the snapshot's. Of
+    // the file and of the log it is known that they were read, and no more.
     ensures made { OnOk result ((x : Checked)
         × HasJoined F.load_gives L.read_gives file.old file.new log.old log.new x
         × IsMade N.make_gives new.old new.new
-        (both_origin x.known.origin.identity x.log.head.identity) x.known.setup (folded_in x.list)
+        (both_origin x.known.origin.identity x.log.head.identity) (given_over numbers.now x.known.setup)
+        (folded_in x.list)
         × HasTaken W.write_takes W.failure_count w.old w.new
         (fold_line (count_in (accepted_in x.list)) (total_in (accepted_in x.list)))) }
     ensures left { IsLeft F.load_gives file.old file.new }
@@ -126,5 +138,7 @@ pub fn run_fold_with_log<F: SnapshotFile, L: KeptLog, N: NewSnapshot, W: Sink>(
     } = known;
     let both = both_lists(alloc, &setup, &origin, list, &logged)?;
     let whose = origin_of_both(origin.identity, logged.head.identity);
-    make_fold(alloc, whose, &setup, both, new, w)
+    let to = numbers.over(&setup);
+    let fitted = refit(alloc, &setup, &to, both)?;
+    make_fold(alloc, whose, &to, fitted, new, w)
 }

@@ -19,6 +19,7 @@ mod limits;
 mod making;
 mod new_file;
 mod pair;
+mod refit;
 mod sum;
 
 pub use check::run_check;

@@ -13,7 +13,7 @@ use crate::check::{LINE_CAPACITY, push_number};
 use crate::fault::CheckFault;
 use crate::sum::total_of_list;
 use arrayvec::ArrayString;
-use batch_store::{BookList, Setup};
+use batch_store::{BookList, GrowthFault, Misfit, Setup};
 use byte_io::{Sink, WriteFault, write_all};
 use snap_file::{Origin, SaveFault};
 use std::alloc::Global;
@@ -28,6 +28,12 @@ pub enum MakeFault {
     /// The snapshot is of a window, which has its book's name and stays in it.
     #[error("snapshot: HasWindow")]
     HasWindow,
+    /// A number that was given is too small for what was read.
+    #[error("settings: SnapshotDiffers ({0})")]
+    TooSmall(Misfit),
+    /// Other numbers than the snapshot's were given without the log that goes with it: that may have more batches.
+    #[error("settings: NeedsLog (PATH: a log goes with it)")]
+    NeedsLog,
     /// The file could not be made: a new one's name is taken, or a call has failed.
     #[error(transparent)]
     Save(SaveFault),
@@ -44,6 +50,20 @@ impl From<CheckFault> for MakeFault {
 
     fn from(fault: CheckFault) -> MakeFault {
         MakeFault::Read(fault)
+    }
+}
+
+impl From<GrowthFault> for MakeFault {
+    ghost use Rattle.std.specs.Prelude.{◌≡◌};
+    ghost use Rattle.snap_report.specs.Made.{make_fault_of_growth};
+
+    ghost from_gives = { λ fault e. e ≡ make_fault_of_growth fault };
+
+    fn from(fault: GrowthFault) -> MakeFault {
+        match fault {
+            GrowthFault::TooSmall(misfit) => MakeFault::TooSmall(misfit),
+            GrowthFault::Memory => MakeFault::Read(CheckFault::Memory),
+        }
     }
 }
 

@@ -22,7 +22,7 @@ use Rattle.socket_server.specs.declared.fault.ServerFault.TheVariants.{RecordsDi
 use Rattle.socket_server.specs.declared.fault.ServerFault.TheVariants.{BadSnapshotPath, BadLogPath, NotDurable}
 use Rattle.socket_server.specs.declared.fault.ServerFault.TheVariants.{NeedsLog, NoLog, NoRandom}
 use Rattle.socket_server.specs.declared.fault.ServerFault.TheVariants.{LogDiffers, NeedsNumber}
-use Rattle.socket_server.specs.declared.given.GivenNumbers.{GivenNumbers}
+use Rattle.batch_store.specs.declared.given_numbers.GivenNumbers.{GivenNumbers}
 use Rattle.socket_server.specs.declared.log_host.LogOrigin.{LogOrigin}
 
 pub serving_met : (must_load : Bool) (f : ServerFault) → IsMetServing f → IsMet must_load f
@@ -198,7 +198,7 @@ no_log_told locks h path BadSnapshotPath n = tt
 no_log_told locks h path BadLogPath n = tt
 no_log_told locks h path (SnapshotDiffers misfit) n = tt
 no_log_told locks h path (LogDiffers misfit) n = absurd n
-no_log_told locks h path (NeedsNumber number) n = tt
+no_log_told locks h path (NeedsNumber number) n = absurd n
 no_log_told locks h path (NeedsLog snapshot) n = tt
 no_log_told locks h path (NoLog log snapshot) n = absurd n
 no_log_told locks h path NoRandom n = tt
@@ -225,7 +225,7 @@ no_file_told loads locks h path v BadSnapshotPath n = tt
 no_file_told loads locks h path v BadLogPath n = tt
 no_file_told loads locks h path v (SnapshotDiffers misfit) n = absurd n
 no_file_told loads locks h path v (LogDiffers misfit) n = tt
-no_file_told loads locks h path v (NeedsNumber number) n = tt
+no_file_told loads locks h path v (NeedsNumber number) n = absurd n
 no_file_told loads locks h path v (NeedsLog snapshot) n = absurd n
 no_file_told loads locks h path v (NoLog log snapshot) n = tt
 no_file_told loads locks h path v NoRandom n = tt
@@ -249,7 +249,7 @@ serving_no_log BadSnapshotPath m = tt
 serving_no_log BadLogPath m = tt
 serving_no_log (SnapshotDiffers misfit) m = tt
 serving_no_log (LogDiffers misfit) m = absurd m
-serving_no_log (NeedsNumber number) m = tt
+serving_no_log (NeedsNumber number) m = absurd m
 serving_no_log (NeedsLog snapshot) m = absurd m
 serving_no_log (NoLog log snapshot) m = absurd m
 serving_no_log NoRandom m = absurd m

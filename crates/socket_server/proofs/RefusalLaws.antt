@@ -13,20 +13,22 @@ use Rattle.snap_file.specs.declared.origin.Identity.{Identity}
 use Rattle.snap_file.specs.declared.origin.Origin.{Origin}
 use Rattle.snap_file.specs.declared.fault.FileFault.{FileFault}
 use Rattle.socket_server.specs.Faults.{IsLogFault, IsMet, IsMetServing, TellsNoFile, TellsNoLog}
-use Rattle.socket_server.specs.Growth.{IsGrowthMisfit, IsHeadMisfit, IsPlan}
+use Rattle.batch_store.specs.Growth.{IsGrowthMisfit}
+use Rattle.socket_server.specs.Growth.{IsHeadMisfit, IsPlan}
 use Rattle.socket_server.specs.Starts.{IsFiles, IsFound, IsHeadTold, IsJoined, IsLoadTold, IsLoaded, IsLogTold}
 use Rattle.socket_server.specs.Starts.{IsRefused, IsStartTold, IsStepFault, StartsUnder, asks_log, needs_file}
 use Rattle.socket_server.specs.Starts.{origin_in, owner_of}
 use Rattle.socket_server.specs.declared.fault.ServerFault.{ServerFault}
 use Rattle.socket_server.specs.declared.fault.ServerFault.TheVariants.{Log, LogDiffers, Memory, NeedsLog, NoRandom}
-use Rattle.socket_server.specs.declared.fault.ServerFault.TheVariants.{SnapshotDiffers}
-use Rattle.socket_server.specs.declared.given.GivenNumbers.{GivenNumbers}
+use Rattle.socket_server.specs.declared.fault.ServerFault.TheVariants.{NeedsNumber, SnapshotDiffers}
+use Rattle.batch_store.specs.declared.misfit.Number.{Number}
+use Rattle.batch_store.specs.declared.given_numbers.GivenNumbers.{GivenNumbers}
 use Rattle.socket_server.specs.declared.log_host.LogOrigin.{LogOrigin}
-use Rattle.socket_server.specs.declared.misfit.Misfit.{Misfit}
+use Rattle.batch_store.specs.declared.misfit.Misfit.{Misfit}
 use Rattle.socket_server.proofs.FaultLaws.{needs_met, no_file_told, no_log_told, serving_log_told, serving_met}
 use Rattle.socket_server.proofs.FaultLaws.{serving_told}
 use Rattle.socket_server.proofs.StartLaws.{differs_told, dims_misfit, growth_told, log_differs_told, needs_told}
-use Rattle.socket_server.proofs.StartLaws.{start_told, step_told}
+use Rattle.socket_server.proofs.StartLaws.{number_told, start_told, step_told}
 
 step_met : (step : StartFault) → IsStepFault step → IsLogFault step
 step_met step (inl is) = subst (λ (x : StartFault). IsLogFault x) (sym is) tt
@@ -76,11 +78,18 @@ module _ {H Y Z : Type 0} (loads : H → List ℕ → ℕ → Result Saved FileF
     }
 
     -- by the look at the log's head
-    pub head_refused : (f : ServerFault) → ((must : Bool) → IsMet must f) → IsHeadTold heads h log must_load g f →
-        TellsNoFile f → IsRefused loads locks heads starts h path log must_load g f
-    head_refused f m told none = record {
+    pub head_refused : (must : Bool) (found : Option Saved) (f : ServerFault) → IsFound loads h path must found →
+        ((b : Bool) → IsMet b f) → IsHeadTold heads h log must_load g f →
+        TellsNoFile f ⊎ ((number : Number) × (f ≡ NeedsNumber number) × (found ≡ None)) →
+        IsRefused loads locks heads starts h path log must_load g f
+    head_refused must found f there m told (inl none) = record {
       met = m must_load;
       told = no_file_told loads locks h path g f none;
+      log_told = inr (inl told);
+    }
+    head_refused must found f there m told (inr why) = record {
+      met = m must_load;
+      told = number_told loads locks h path must g found f there why;
       log_told = inr (inl told);
     }
 

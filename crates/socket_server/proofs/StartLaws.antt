@@ -15,14 +15,15 @@ use Rattle.snap_file.specs.declared.origin.Origin.{Origin}
 use Rattle.snap_file.specs.Snapshots.{Saved, saved, HasBase}
 use Rattle.snap_file.specs.declared.fault.FileFault.{FileFault}
 use Rattle.std.specs.declared.alloc.Global.{Global}
-use Rattle.socket_server.specs.Growth.{IsDimMisfit, IsGrown, IsGrowthMisfit, IsHeadMisfit, IsMisfit, IsPlan, given_over}
-use Rattle.socket_server.specs.Growth.{with_dims}
+use Rattle.batch_store.specs.Growth.{IsDimMisfit, IsGrowthMisfit, given_over, with_dims}
+use Rattle.socket_server.specs.Growth.{IsGrown, IsHeadMisfit, IsMisfit, IsPlan}
 use Rattle.socket_server.specs.declared.fault.ServerFault.{ServerFault}
 use Rattle.socket_server.specs.declared.fault.ServerFault.TheVariants.{Log, LogDiffers, Memory, NeedsLog}
-use Rattle.socket_server.specs.declared.fault.ServerFault.TheVariants.{SnapshotDiffers}
-use Rattle.socket_server.specs.declared.given.GivenNumbers.{GivenNumbers}
+use Rattle.socket_server.specs.declared.fault.ServerFault.TheVariants.{NeedsNumber, SnapshotDiffers}
+use Rattle.batch_store.specs.declared.misfit.Number.{Number}
+use Rattle.batch_store.specs.declared.given_numbers.GivenNumbers.{GivenNumbers}
 use Rattle.socket_server.specs.declared.log_host.LogOrigin.{LogOrigin}
-use Rattle.socket_server.specs.declared.misfit.Misfit.{Misfit}
+use Rattle.batch_store.specs.declared.misfit.Misfit.{Misfit}
 use Rattle.socket_server.specs.Starts.{HasLoaded, IsFiles, IsFilesOf, IsFound, IsJoined, IsListOf, IsLoaded}
 use Rattle.socket_server.specs.Starts.{IsLoadTold, IsLogTold, IsMarked, IsMarkedLog, IsStartTold, IsStepFault}
 use Rattle.socket_server.specs.Starts.{StartsFrom, StartsUnder, asks_log, head_identity, identity_in, most_bytes, needs_file}
@@ -79,6 +80,16 @@ module _ {H Z : Type 0} (loads : H → List ℕ → ℕ → Result Saved FileFau
   needs_told path must g None f there (inr told) = absurd (let h = told.2 in cc h)
   needs_told path must g (Some s) f there (inr told) =
       subst (λ (x : ServerFault). IsLoadTold loads locks h path g x) (sym told.1) (s, there, told.2)
+
+  -- that a number is missing, only where there is none
+  pub number_told : (path : Option (String Z)) (must : Bool) (g : GivenNumbers) (found : Option Saved)
+      (f : ServerFault) → IsFound loads h path must found →
+      (number : Number) × (f ≡ NeedsNumber number) × (found ≡ None) → IsLoadTold loads locks h path g f
+  number_told path must g (Some s) f there why = absurd (let none = why.2 in cc none)
+  number_told path must g None f (inl none) why =
+      subst (λ (x : ServerFault). IsLoadTold loads locks h path g x) (sym why.1) (inl none)
+  number_told path must g None f (inr there) why =
+      subst (λ (x : ServerFault). IsLoadTold loads locks h path g x) (sym why.1) (inr there.0)
 
   -- that it differs is told only where a number that is given is too small for it
   pub differs_told : (path : Option (String Z)) (must : Bool) (g : GivenNumbers) (found : Option Saved) (m : Misfit)

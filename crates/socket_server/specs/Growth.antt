@@ -1,6 +1,4 @@
 -- A setup that a start is given, over that of its files.
---     given_over g f   each number that was given, and else that of the files
---     with_dims v f    a setup with the rows and columns of another
 --     IsPlan g f p q   the setup of a server, q, whose files say f: the given numbers over these, of no fewer rows and
 --                      columns. Until all is read and judged it is p: of the files' rows and columns, else as q
 --     IsMisfit g s m   a number that was given is too small for a snapshot: for its rows or columns, or for the total
@@ -13,52 +11,24 @@
 --     IsGrown saves begins names h path log p q x b a
 --                      what was accepted under setup p is the same under q: where these are one nothing was done; else
 --                      it was saved under the snapshot's path with setup q and origin x, and the log renewed so
-use Rattle.std.specs.Prelude.{◌≡◌, ◌⊎◌, ℕ, ◌<◌, ◌≤◌, List, Option, Some, None, String, string_bytes}
-use Rattle.std.specs.Prelude.{if◌then◌else◌}
-use Rattle.batch_store.specs.Setups.{Setting, setting}
+use Rattle.std.specs.Prelude.{◌≡◌, ◌⊎◌, ℕ, ◌≤◌, List, Option, Some, None, String, string_bytes}
+use Rattle.batch_store.specs.Setups.{Setting}
 use Rattle.batch_store.specs.declared.verdict.Entry.{Entry}
-use Rattle.batch_store.specs.Accepted.{Accepted, count_in, entries_in, total_in}
+use Rattle.batch_store.specs.Accepted.{Accepted, entries_in}
 use Rattle.batch_store.specs.Books.{accepted_in, listed_in}
-use Rattle.batch_store.specs.Growth.{grown_to}
+use Rattle.batch_store.specs.Growth.{IsDimMisfit, IsGrowthMisfit, given_over, grown_to, with_dims}
+use Rattle.batch_store.specs.declared.given_numbers.GivenNumbers.{GivenNumbers}
+use Rattle.batch_store.specs.declared.misfit.Misfit.{Misfit}
 use Rattle.snap_file.specs.Snapshots.{Saved}
 use Rattle.snap_file.specs.declared.origin.Identity.{Identity}
 use Rattle.snap_file.specs.declared.origin.Origin.{Origin}
 use Rattle.session_pool.specs.Saves.{IsSaved, of_origin}
-use Rattle.socket_server.specs.declared.given.GivenNumbers.{GivenNumbers}
-use Rattle.socket_server.specs.declared.misfit.Misfit.{Misfit}
-use Rattle.socket_server.specs.declared.misfit.Number.TheVariants.{Rows, Cols, Limit, MaxBatches}
-
-abbrev pub given_over : GivenNumbers → Setting → Setting
-given_over g f = setting (if g.rows then g.setup.rows else f.rows) (if g.cols then g.setup.cols else f.cols)
-    (if g.cuts then g.setup.cuts else f.cuts) (if g.shards then g.setup.shards else f.shards)
-    (if g.limit then g.setup.limit else f.limit) (if g.max_batches then g.setup.max_batches else f.max_batches)
-
-abbrev pub with_dims : Setting → Setting → Setting
-with_dims v f = setting f.rows f.cols v.cuts v.shards v.limit v.max_batches
 
 pub record IsPlan (g : GivenNumbers) (f p q : Setting) : Type 0 where
   pub last : q ≡ given_over g f
   pub first : p ≡ with_dims q f
   pub rows : f.rows ≤ q.rows
   pub cols : f.cols ≤ q.cols
-
--- what the files have of this number, and what was given, which is less
-pub record IsBelow (m : Misfit) (has given : ℕ) : Type 0 where
-  pub has_is : m.has ≡ has
-  pub given_is : m.given ≡ given
-  pub below : given < has
-
--- the files have more rows or columns than a setup
-abbrev pub IsDimMisfit : Setting → Setting → Misfit → Type 0
-IsDimMisfit f q m =
-    ((m.number ≡ Rows) × IsBelow m f.rows q.rows) ⊎ ((m.number ≡ Cols) × IsBelow m f.cols q.cols)
-
--- or what was accepted under the setup of the files has a larger total, or more batches, than it allows
-abbrev pub IsGrowthMisfit : Setting → Setting → Accepted → Misfit → Type 0
-IsGrowthMisfit f q a m =
-    IsDimMisfit f q m
-    ⊎ (((m.number ≡ Limit) × IsBelow m (total_in a) q.limit)
-    ⊎ ((m.number ≡ MaxBatches) × IsBelow m (count_in a) q.max_batches))
 
 abbrev pub IsMisfit : GivenNumbers → Saved → Misfit → Type 0
 IsMisfit g s m = IsGrowthMisfit s.setup (given_over g s.setup) (accepted_in s.list) m

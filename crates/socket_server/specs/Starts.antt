@@ -74,10 +74,12 @@ use Rattle.session_pool.specs.Saves.{IsSaved, of_origin}
 use Rattle.socket_server.specs.Ends.{GoesOn}
 use Rattle.socket_server.specs.Faults.{IsMet}
 use Rattle.socket_server.specs.Growth.{IsGrown, IsHeadMisfit, IsMisfit, IsPlan, IsRenewed}
-use Rattle.socket_server.specs.declared.given.GivenNumbers.{GivenNumbers}
+use Rattle.batch_store.specs.declared.given_numbers.GivenNumbers.{GivenNumbers}
 use Rattle.socket_server.specs.declared.fault.ServerFault.{ServerFault}
-use Rattle.socket_server.specs.declared.fault.ServerFault.TheVariants.{SnapshotDiffers, LogDiffers, NeedsLog, File}
-use Rattle.socket_server.specs.declared.fault.ServerFault.TheVariants.{Log, NoLog}
+use Rattle.socket_server.specs.declared.fault.ServerFault.TheVariants.{SnapshotDiffers, LogDiffers, NeedsNumber}
+use Rattle.socket_server.specs.declared.fault.ServerFault.TheVariants.{NeedsLog, File, Log, NoLog}
+use Rattle.batch_store.specs.declared.misfit.Number.{Number}
+use Rattle.batch_store.specs.declared.misfit.Number.TheVariants.{Rows, Cols, Limit, MaxBatches}
 
 abbrev pub has_reserved_end : List ℕ → Bool
 has_reserved_end path = ends_with eqb path (codes ".new") || ends_with eqb path (codes ".lock")
@@ -261,16 +263,26 @@ abbrev pub IsLoadTold : {H Z : Type 0} → (H → List ℕ → ℕ → Result Sa
     (H → List ℕ → Result Bool FileFault → Type 0) → H → Option (String Z) → GivenNumbers → ServerFault → Type 0
 IsLoadTold loads locks h path g (SnapshotDiffers misfit) =
     (s : Saved) × HasLoaded loads h path (Ok s) × IsMisfit g s misfit
+IsLoadTold loads locks h path g (NeedsNumber number) = (path ≡ None) ⊎ HasLoaded loads h path (Err file.NotFound)
 IsLoadTold loads locks h path g (NeedsLog snapshot) =
     (s : Saved) × HasLoaded loads h path (Ok s) × (s.origin.has_log ≡ true)
 IsLoadTold loads locks h path g (File fault) =
     HasLoaded loads h path (Err fault) ⊎ HasAnsweredLock locks h path (Err fault)
 IsLoadTold loads locks h path g _ = Unit {0}
 
+-- a number that isn't given: of rows and columns, the first
+abbrev pub IsNotGiven : GivenNumbers → Number → Type 0
+IsNotGiven g Rows = g.rows ≡ false
+IsNotGiven g Cols = (g.rows ≡ true) × (g.cols ≡ false)
+IsNotGiven g Limit = ⊥
+IsNotGiven g MaxBatches = ⊥
+
 abbrev pub IsHeadTold : {H Z : Type 0} → (H → List ℕ → Result (Option Setting) StartFault → Type 0) → H →
     Option (String Z) → Bool → GivenNumbers → ServerFault → Type 0
 IsHeadTold heads h log must_load g (LogDiffers misfit) =
     (u : Setting) × HasHead heads h log (Ok (Some u)) × IsHeadMisfit g u misfit
+IsHeadTold heads h log must_load g (NeedsNumber number) =
+    ((log ≡ None) ⊎ (HasHead heads h log (Ok None) × (must_load ≡ false))) × IsNotGiven g number
 IsHeadTold heads h log must_load g (Log fault) =
     HasHead heads h log (Err fault)
     ⊎ (HasHead heads h log (Ok None) × (must_load ≡ true) × (fault ≡ start.NotFound))
@@ -285,6 +297,7 @@ IsLockTold locks h log (Log fault) =
     ⊎ (HasAnsweredLock locks h log (Ok false) × (fault ≡ start.Create))
 IsLockTold locks h log (NoLog missing snapshot) = ⊥
 IsLockTold locks h log (LogDiffers misfit) = ⊥
+IsLockTold locks h log (NeedsNumber number) = ⊥
 IsLockTold locks h log _ = Unit {0}
 
 -- a fault of the log is reported only where the host has answered it to a start of the log over what is known; or it is
@@ -298,6 +311,7 @@ IsStartTold starts h log v owner known (Log fault) =
 IsStartTold starts h log v owner known (NoLog missing snapshot) =
     HasStarted starts h log v owner known (Err start.NotFound) × (owner.must_be_there ≡ true)
 IsStartTold starts h log v owner known (LogDiffers misfit) = ⊥
+IsStartTold starts h log v owner known (NeedsNumber number) = ⊥
 IsStartTold starts h log v owner known _ = Unit {0}
 
 abbrev pub IsLogTold : {H Y Z : Type 0} → (H → List ℕ → ℕ → Result Saved FileFault → Type 0) →

@@ -128,7 +128,11 @@ impl<R: Files<File = File> + Clock> LogHost<FileLog> for R {
                 page: 0,
             })),
             Ok(None) => Ok(None),
-            Err(HeadFault::Read) => Err(StartFault::Create),
+            Err(HeadFault::Open) => Err(StartFault::Create),
+            Err(HeadFault::Read) => Err(StartFault::Log(LogFault {
+                kind: LogKind::Read,
+                page: 0,
+            })),
             Err(HeadFault::NoLog(kind)) => Err(StartFault::Log(LogFault { kind, page: 0 })),
         }
     }

@@ -3,22 +3,21 @@ ghost use Rattle.std.specs.Prelude.{◌≡◌, ◌↔◌, ◌⊎◌, ◌≤◌, 
 ghost use Rattle.std.specs.Prelude.{is_some, true};
 ghost use Rattle.batch_store.specs.Accepted.{Accepted, unfolded};
 ghost use Rattle.batch_store.specs.Books.{AreAccepted, accepted_in, listed_in};
-ghost use Rattle.batch_store.specs.Growth.{RefusesGrowth};
+ghost use Rattle.batch_store.specs.Growth.{IsGrowthMisfit, RefusesGrowth, with_dims};
 ghost use Rattle.batch_store.specs.Setups.{Setting};
 ghost use Rattle.snap_file.specs.Snapshots.{HasBase};
 ghost use Rattle.socket_server.specs.Faults.{IsMet, TellsNoFile, TellsNoLog};
-ghost use Rattle.socket_server.specs.Growth.{IsDimMisfit, IsGrowthMisfit, IsHeadMisfit, IsPlan, with_dims};
-ghost use Rattle.socket_server.specs.Starts.{IsFiles, IsFound, IsHeadTold, IsListOf, IsLoadTold, needs_file, origin_in};
-ghost use Rattle.socket_server.specs.declared.misfit.Misfit.{Misfit};
+ghost use Rattle.socket_server.specs.Growth.{IsHeadMisfit, IsPlan};
+ghost use Rattle.socket_server.specs.Starts.{IsFiles, IsFound, IsHeadTold, IsListOf, IsLoadTold, IsNotGiven, needs_file};
+ghost use Rattle.batch_store.specs.declared.misfit.Misfit.{Misfit};
+ghost use Rattle.batch_store.specs.declared.misfit.Number.{Number};
 
 use crate::fault::ServerFault;
-use crate::given::{GivenNumbers, with_dims};
 use crate::host::Host;
 use crate::log_host::LogHost;
-use crate::misfit::{Misfit, Number};
 use crate::settings::{MAX_BYTES, Settings};
 use crate::start::{log_fault, note};
-use batch_store::{BookList, GrowthFault, Setup};
+use batch_store::{BookList, GivenNumbers, GrowthFault, Number, Setup, with_dims};
 use event_log::Event;
 use hyper_matrix::Hyper;
 use log_desk::Log;
@@ -43,18 +42,6 @@ pub(crate) struct SetupPlan {
     pub first: Setup,
     /// The server's.
     pub last: Setup,
-}
-
-/// Whether two setups have the same values.
-pub(crate) fn same_setup(a: &Setup, b: &Setup) -> bool
-    ensures { (result ≡ true) ↔ (a.now ≡ b.now) }
-{
-    a.rows() == b.rows()
-        && a.cols() == b.cols()
-        && a.cuts() == b.cuts()
-        && a.shards() == b.shards()
-        && a.limit() == b.limit()
-        && a.max_batches() == b.max_batches()
 }
 
 /// The list of nothing.
@@ -106,8 +93,8 @@ pub(crate) fn find_snapshot<R: Wait + Host>(
 fn given_setup(numbers: &GivenNumbers) -> Result<Setup, ServerFault>
     ensures ok { IfOk result (λ f. f ≡ numbers.now.setup) }
     ensures given { OnOk result ((numbers.now.rows ≡ true) × (numbers.now.cols ≡ true)) }
-    ensures err { IfErr result (λ f. (f ≡ ServerFault.NeedsNumber Number.Rows)
-        ⊎ (f ≡ ServerFault.NeedsNumber Number.Cols)) }
+    ensures err { IfErr result (λ f. (number : Number) × (f ≡ ServerFault.NeedsNumber number)
+        × IsNotGiven numbers.now number) }
 {
     if !numbers.rows {
         return Err(ServerFault::NeedsNumber(Number::Rows));
@@ -129,7 +116,8 @@ pub(crate) fn files_setup<L: Log, R: LogHost<L>>(
     ensures met { IfErr result (λ f. (must_load : Bool) → IsMet must_load f) }
     ensures told { IfErr result (λ f. IsHeadTold R.log_heads rt.now settings.now.log settings.now.must_load
         settings.now.numbers f) }
-    ensures no_file { IfErr result TellsNoFile }
+    ensures no_file { IfErr result (λ f. TellsNoFile f
+        ⊎ ((number : Number) × (f ≡ ServerFault.NeedsNumber number) × (found.now ≡ None))) }
 {
     if let Some(snapshot) = found {
         return Ok(snapshot.setup);
@@ -143,29 +131,6 @@ pub(crate) fn files_setup<L: Log, R: LogHost<L>>(
         Ok(None) => given_setup(&settings.numbers),
         Err(fault) => Err(log_fault(fault)),
     }
-}
-
-// Judges the rows and columns of a setup by those of the files.
-fn judge_dims(setup: &Setup, files: &Setup) -> Result<(), Misfit>
-    ensures rows { OnOk result (files.now.rows ≤ setup.now.rows) }
-    ensures cols { OnOk result (files.now.cols ≤ setup.now.cols) }
-    ensures err { IfErr result (λ m. IsDimMisfit files.now setup.now m) }
-{
-    if setup.rows() < files.rows() {
-        return Err(Misfit {
-            number: Number::Rows,
-            has: files.rows(),
-            given: setup.rows(),
-        });
-    }
-    if setup.cols() < files.cols() {
-        return Err(Misfit {
-            number: Number::Cols,
-            has: files.cols(),
-            given: setup.cols(),
-        });
-    }
-    Ok(())
 }
 
 /// The setup that a server starts with whose files say this one.
@@ -182,7 +147,7 @@ pub(crate) fn plan_setup(
         ⊎ ((found.now ≡ None) × (f ≡ ServerFault.LogDiffers m)))) }
 {
     let last = settings.numbers.over(&files);
-    match judge_dims(&last, &files) {
+    match last.judge_dims(&files) {
         Ok(()) => Ok(SetupPlan {
             files,
             first: with_dims(&last, &files),
@@ -194,18 +159,14 @@ pub(crate) fn plan_setup(
 }
 
 // Why a snapshot's list isn't one that a setup accepts.
-fn growth_fault(fault: GrowthFault, setup: &Setup) -> ServerFault
-    ensures { (from : Setting) (a : Accepted) → RefusesGrowth setup.now from a fault → (result ≡ ServerFault.Memory)
-        ⊎ ((m : Misfit) × (result ≡ ServerFault.SnapshotDiffers m) × IsGrowthMisfit from setup.now a m) }
+fn growth_fault(fault: GrowthFault) -> ServerFault
+    ensures { (to from : Setting) (a : Accepted) → RefusesGrowth to from a fault → (result ≡ ServerFault.Memory)
+        ⊎ ((m : Misfit) × (result ≡ ServerFault.SnapshotDiffers m) × IsGrowthMisfit from to a m) }
 {
-    let (number, has, given) = match fault {
-        GrowthFault::Rows { has } => (Number::Rows, has, setup.rows()),
-        GrowthFault::Cols { has } => (Number::Cols, has, setup.cols()),
-        GrowthFault::Limit { has } => (Number::Limit, has, setup.limit()),
-        GrowthFault::Batches { has } => (Number::MaxBatches, has, setup.max_batches()),
-        GrowthFault::Memory => return ServerFault::Memory,
-    };
-    ServerFault::SnapshotDiffers(Misfit { number, has, given })
+    match fault {
+        GrowthFault::TooSmall(misfit) => ServerFault::SnapshotDiffers(misfit),
+        GrowthFault::Memory => ServerFault::Memory,
+    }
 }
 
 // What a snapshot has, judged by the first setup of a plan.
@@ -229,7 +190,7 @@ fn judged(alloc: Global, plan: &SetupPlan, snapshot: Snapshot) -> Result<Loaded,
             list,
             origin: Some(origin),
         }),
-        Err(fault) => Err(growth_fault(fault, &plan.first)),
+        Err(fault) => Err(growth_fault(fault)),
     }
 }
 

@@ -4,7 +4,7 @@ ghost use Rattle.log_start.specs.declared.fault.StartFault.{StartFault};
 ghost use Rattle.snap_file.specs.declared.fault.SaveFault.{SaveFault};
 ghost use Rattle.socket_server.specs.Faults.{IsMet, IsLockFault, TellsNoLog, TellsNoFile};
 ghost use Rattle.socket_server.specs.Starts.{IsLocked, IsLoadTold, IsLockTold, lock_answer};
-ghost use Rattle.socket_server.specs.declared.given.GivenNumbers.{GivenNumbers};
+ghost use Rattle.batch_store.specs.declared.given_numbers.GivenNumbers.{GivenNumbers};
 
 use crate::fault::ServerFault;
 use crate::host::Host;

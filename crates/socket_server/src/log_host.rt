@@ -43,7 +43,7 @@ pub trait LogHost<L: Log> {
     ///
     /// # Errors
     ///
-    /// `Create` where the file can't be read, and `Log` where its first page isn't the head of a log.
+    /// `Create` where the file can't be opened, and `Log` where its first page can't be read or isn't the head of a log.
     fn log_setup(&self, path: &str) -> Result<Option<Setup>, StartFault>
         ensures answer { log_heads self.now path.now result };
 

@@ -1,7 +1,7 @@
 //! Settings of small servers.
 
-use batch_store::Setup;
-use socket_server::{GivenNumbers, Settings};
+use batch_store::{GivenNumbers, Setup};
+use socket_server::Settings;
 use std::alloc::Global;
 use std::process::Abort;
 

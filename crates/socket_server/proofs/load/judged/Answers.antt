@@ -3,9 +3,9 @@ use Rattle.batch_store.specs.Books.{accepted_in}
 use Rattle.batch_store.specs.Setups.{Setting}
 use Rattle.batch_store.proofs.GrowthLaws.{grown_own}
 use Rattle.snap_file.specs.Snapshots.{Saved}
-use Rattle.socket_server.specs.Growth.{IsGrowthMisfit}
+use Rattle.batch_store.specs.Growth.{IsGrowthMisfit}
 use Rattle.socket_server.specs.declared.fault.ServerFault.TheVariants.{Memory, SnapshotDiffers}
-use Rattle.socket_server.specs.declared.misfit.Misfit.{Misfit}
+use Rattle.batch_store.specs.declared.misfit.Misfit.{Misfit}
 use Rattle.socket_server.proofs.load.judged.Goals as goal
 
 -- the dimensions are the file's own, so nothing is widened
@@ -28,4 +28,4 @@ returns-in-Err-clause-err c =
     let fault = c.growth_fault.result in
     subst (λ (x : Saved). (fault ≡ Memory) ⊎ ((m : Misfit) × (fault ≡ SnapshotDiffers m)
     × IsGrowthMisfit x.setup c.args.plan.now.first (accepted_in x.list) m)) c.snapshot.view_is
-    (c.growth_fault.ensures s.setup (accepted_in s.list) c.in-Err.ensures.err)
+    (c.growth_fault.ensures c.args.plan.now.first s.setup (accepted_in s.list) c.in-Err.ensures.err)

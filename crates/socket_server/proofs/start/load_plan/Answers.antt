@@ -27,8 +27,8 @@ returns-in_err-files-clause-refused g c =
     let p = err_from_is_err_and c.from_residual-in_err-files.result c.from_residual-in_err-files.ensures.1 in
     let s = c.args.settings.now in
     rw (p.1, p.2) (head_refused g.R.Host.loads g.R.Host.locks g.R.LogHost.log_heads g.R.LogHost.log_starts
-    c.args.rt.now s.snapshot s.log s.must_load s.numbers _ c.in_err-files.ensures.met c.in_err-files.ensures.told
-    c.in_err-files.ensures.no_file)
+    c.args.rt.now s.snapshot s.log s.must_load s.numbers (needs_file s.must_load s.log) c.in_ok-found.found _
+    c.in_ok-found.ensures.found c.in_err-files.ensures.met c.in_err-files.ensures.told c.in_err-files.ensures.no_file)
 
 pub returns-in_err-plan-clause-refused : goal.returns-in_err-plan-clause-refused
 returns-in_err-plan-clause-refused g c =

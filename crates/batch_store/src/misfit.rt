@@ -1,4 +1,4 @@
-//! A number of a setup that is too small for what the files have.
+//! A number of a setup that is too small for what was accepted.
 
 use std::fmt;
 
@@ -22,14 +22,14 @@ impl fmt::Display for Number {
     }
 }
 
-/// A number that a start was given and that is too small: for the files' rows or columns, for the total of what was
-/// accepted, or for the number of batches.
+/// A number of a setup that is too small: for the rows or columns of the matrices, for the total of what was accepted,
+/// or for the number of batches.
 #[derive(Clone, Copy, Debug, PartialEq, Eq)]
 pub struct Misfit {
     pub number: Number,
-    /// What the files have.
+    /// What the matrices or the batches have.
     pub has: u64,
-    /// What was given.
+    /// What the setup says.
     pub given: u64,
 }
 

@@ -1,10 +1,10 @@
-//! The numbers of a setup that a start is given.
+//! The numbers of a setup that a command is given.
 ghost use Rattle.std.specs.Prelude.{◌≡◌, if◌then◌else◌};
-ghost use Rattle.socket_server.specs.Growth.{given_over, with_dims};
+ghost use Rattle.batch_store.specs.Growth.{given_over, with_dims};
 
-use batch_store::Setup;
+use crate::setup::Setup;
 
-/// The numbers of a setup that a start is given. Each that isn't given is that of the files: of the snapshot, or where
+/// The numbers of a setup that a command is given. Each that isn't given is that of the files: of the snapshot, or where
 /// there is none of the log's head. Where no file says one it is the default; of rows and columns there is none.
 #[derive(Clone, Copy)]
 pub struct GivenNumbers {
@@ -68,7 +68,7 @@ impl GivenNumbers {
     }
 
     /// The setup where the files say this one.
-    pub(crate) fn over(&self, files: &Setup) -> Setup
+    pub fn over(&self, files: &Setup) -> Setup
         ensures { result ≡ given_over self.now files.now }
     {
         let given = &self.setup;
