@@ -13,7 +13,7 @@ import struct
 import time
 from typing import NamedTuple, Optional
 
-OPENS, WRITES, CUTS, SYNCS, RENAMES, REMOVES, SYNCS_OF_FOLDERS, SENDS, CLOSES = range(1, 10)
+OPENS, WRITES, CUTS, SYNCS, RENAMES, REMOVES, SYNCS_OF_FOLDERS, SENDS, CLOSES, READS = range(1, 11)
 FAIL, DIE_BEFORE, DIE_BEHIND, HOLD, SHORT, HOLD_AND_FAIL = range(1, 7)
 HEAD = struct.Struct("<iiqqqq")
 BEGUN = -1_000_000

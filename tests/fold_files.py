@@ -3,10 +3,11 @@
 
     python3 tests/fold_files.py PATH-TO-HHM
 
-A fold has all batches of the files that it read in one matrix, in the snapshot's file or in a new one. The bytes that
-are wanted are written by snap_bytes.py from docs/FORMATS.md. Kills and failures at each call come from lose_power.c and
-disks.py. It prints a line for each check that fails and at the end `N passed, M failed`; the status is 1 where one
-fails. Linux, Python's own library and the toolchain of Rattle.
+A fold has all batches of the files that it read in one matrix, in the snapshot's file or in a new one, under the
+numbers that it is given and those of the files. The bytes that are wanted are written by snap_bytes.py from
+docs/FORMATS.md, and the tables of numbers are those of growing.py. Kills and failures at each call come from
+lose_power.c and disks.py. It prints a line for each check that fails and at the end `N passed, M failed`; the status is
+1 where one fails. Linux, Python's own library and the toolchain of Rattle.
 """
 import os
 import re
@@ -15,15 +16,19 @@ import signal
 import subprocess
 import sys
 
+import growing
 import server
 from disks import DIE_BEFORE, FAIL, WRITES
+from given import OPTIONS, words_of
+from growing import ALL, FITTING, MISFITS, SMALL, Numbers, put_cells_of
 from identity import BOTH, CHANGES, F, FT, LOG, NEEDS_LOG, OTHER, OTHER_SETUP, SNAP, TORN, Broken, Files, Room
 from identity import all_is_known, book_of, held_in, log_of, snap_of, total_of
 from refused import library_of
 from server import WAIT, accepted, check, content
 from server_faults import SAVE, STOP, STOPPING, asked, in_folder, write
-from server_log import FIVE, THREE, TWO, hhm, kill, put_of, run_each, saved, stopped
-from snap_bytes import BOOK, OWNED, PAIRED, UNKNOWN, Origin
+from server_log import CLOSED, FIVE, THREE, TWO, hhm, kill, put_of, run_each, saved, stopped, without
+from log_bytes import Log
+from snap_bytes import BOOK, OWNED, PAIRED, UNKNOWN, Origin, Snapshot
 
 LOGGED = UNKNOWN._replace(log=1)
 WINDOW = Origin(BOOK, 5)
@@ -269,51 +274,290 @@ def links_lead_to_both():
 
 def an_output_may_fail():
     """The file is there, and the status says that its line isn't. A closed output is no lock's file."""
-    for name, words in [("in place", []), ("to a new file", ["--to"])]:
-        files = Files(f"fold unheard {name}", BOTH, snap_of(F, PAIRED), log_of(THREE, behind=F, origin=OWNED))
-        words = [server.PROGRAM, "fold", files.snap, "--log", files.log, *words, *([out_of(files)] if words else [])]
-        with open("/dev/full", "wb") as full:
-            ended = subprocess.run(words, stdout=full, stderr=subprocess.PIPE, timeout=WAIT)
-        check(f"a full output, {name}", (ended.stderr, ended.returncode), (b"hhm: output failed after 0 bytes\n", 4))
-        made = out_of(files) if "--to" in words else files.snap
-        check(f"a full output, {name}: the file", held_in(made), snap_of([], PAIRED, folded=FT))
-        if "--to" in words:
-            os.remove(made)
-        closed = ["sh", "-c", 'exec "$@" >&-', "sh", *words]
-        ended = subprocess.run(closed, stderr=subprocess.PIPE, timeout=WAIT)
-        check(f"a closed output, {name}", (ended.stderr, ended.returncode), (b"hhm: output failed after 0 bytes\n", 4))
-        locks = [content(os.path.join(files.folder, it)) for it in os.listdir(files.folder) if it.endswith(".lock")]
-        check(f"a closed output, {name}: locks", set(locks) <= {b""}, True)
+    told = "hhm: output failed after 0 bytes\n"
+    for to in (False, True):
+        for name in ("full", *CLOSED):
+            files = Files(f"fold unheard {name} {to}", BOTH, snap_of(F, PAIRED), log_of(THREE, behind=F, origin=OWNED))
+            words = ["fold", files.snap, "--log", files.log, *(["--to", out_of(files)] if to else [])]
+            if name == "full":
+                with open("/dev/full", "wb") as full:
+                    ended = subprocess.run([server.PROGRAM, *words], stdout=full, stderr=subprocess.PIPE, timeout=WAIT)
+                found, wanted = ("", ended.stderr.decode(), ended.returncode), ("", told, 4)
+            else:
+                found = hhm(*words, **without(name))
+                wanted = ("", "" if 2 in name else told, 4) if 1 in name else (line(FT), "", 0)
+            check(f"output {name}, {to}", found, wanted)
+            made = out_of(files) if to else files.snap
+            check(f"output {name}, {to}: the file", held_in(made), snap_of([], PAIRED, folded=FT))
+            locks = [content(os.path.join(files.folder, it)) for it in os.listdir(files.folder) if it.endswith(".lock")]
+            check(f"output {name}, {to}: locks", set(locks) <= {b""}, True)
+
+
+# Other numbers than SMALL that all batches of the kinds of growing.py fit: each is larger, smaller and absent.
+OTHERS = [it for it in FITTING if SMALL._replace(**it) != SMALL]
+# Files whose batches are ALL: each is folded, with the log that is there.
+KINDS = [it for it in [*growing.KINDS, *growing.OLD] if it.log or it.options == SNAP]
+
+
+def files_of(name, kind):
+    """The files of a kind, which a start takes with the options of both where a log is there."""
+    return Numbers(name.replace("/", ""), BOTH if kind.log else SNAP, kind.snap, kind.log)
+
+
+def refolded(kind, setup):
+    """The bytes of a fold of a kind's files under a setup."""
+    return growing.snap_of([], setup, Origin(kind.known(), log=1 if kind.log else 0), folded=ALL)
+
+
+def other_numbers_are_taken():
+    """Each number larger, smaller, the same and absent, and several at once, in place and into a new file in turn."""
+    for row, kind in enumerate(KINDS):
+        for place, given in enumerate(FITTING if kind in growing.KINDS else FITTING[row % 3 :: 3]):
+            wanted, to = refolded(kind, SMALL._replace(**given)), (row + place) % 2
+            name = f"{kind.name} with {given}, {'to a new file' if to else 'in place'}"
+            files = files_of(f"fold {name}", kind)
+            before = files.all_bytes()
+            words = ["--to", out_of(files)] if to else []
+            found = fold(files, *words, *words_of(given), with_log=kind.log is not None, env=Quick.env)
+            check(f"{name}: outputs", found, (line(ALL), "", 0))
+            made = "out" if to else "snap"
+            check(f"{name}: the file", held_in(os.path.join(files.folder, made)), wanted)
+            left = files.all_bytes()
+            left.pop(made, None), before.pop(made, None)
+            check(f"{name}: the other files", left, before)
+
+
+def numbers_are_those_of_the_last_fold():
+    """What is folded is folded again: each number is the last that was given, though the log has its own setup."""
+    for kind in (growing.KINDS[0], growing.KINDS[2], growing.KINDS[4]):
+        files, setup = files_of(f"fold {kind.name} in turn", kind), SMALL
+        for given in ({"rows": 9, "limit": 10}, {}, {"limit": 1000, "most": 3, "cuts": ()}, {"cols": 5, "shards": 1}):
+            setup = setup._replace(**given)
+            found = fold(files, *words_of(given), with_log=kind.log is not None, env=Quick.env)
+            check(f"{kind.name} in turn, {given}: outputs", found, (line(ALL), "", 0))
+            check(f"{kind.name} in turn, {given}: the file", held_in(files.snap), refolded(kind, setup))
+        check(f"{kind.name} in turn: the log", held_in(files.log), kind.log)
+        found = fold(files, "--rows", "8", with_log=kind.log is not None)
+        told = "hhm: settings: SnapshotDiffers (rows: the file has 9, 8 was given)\n"
+        check(f"{kind.name} in turn: fewer rows than the last fold's", found, ("", told, 2))
+
+
+class Quick:
+    """The environment of a program that waits for no disk."""
+
+    env = {}
+
+
+def starts_with(name, files, words, setup, book):
+    """A server on folded files: its setup, its book, all batches, and what its files say."""
+    with files.serve(*words, env=Quick.env) as at:
+        with at.link() as link:
+            growing.all_is_known(name, link, ALL, setup, book)
+            check(f"{name}: the snapshot's setup", growing.snap_setup(files), setup)
+            if "--log" in files.options:
+                held = Log(held_in(files.log))
+                check(f"{name}: the log's setup", held.setup, setup)
+            # (a batch that only the new numbers allow)
+            more = (6, 1, [(0, 0, 0), (setup.rows - 1, setup.cols - 1, 0)])
+            if setup.most > 3:
+                check(f"{name}: put", asked(link, put_cells_of(more), 21), accepted(3, 10))
+        kill(at)
+    if "--log" in files.options:
+        check(f"{name}: after a kill", files.start(env=Quick.env), stopped(3 + (setup.most > 3), 10))
+
+
+def servers_start_with_other_numbers():
+    """By no numbers and by the given ones, on what a fold leaves in place or makes."""
+    cases = [(given, words) for given in OTHERS for words in ({}, given)]
+    for place, (given, words) in enumerate(cases):
+        kind, setup = KINDS[place % len(KINDS)], SMALL._replace(**given)
+        name = f"a start with {words} after a fold of {kind.name} with {given}"
+        files = files_of(name, kind)
+        made = ["--to", out_of(files)] if place % 3 == 1 else []
+        folded = fold(files, *made, *words_of(given), with_log=kind.log is not None, env=Quick.env)
+        check(f"{name}: fold", folded, (line(ALL), "", 0))
+        if made:
+            os.replace(out_of(files), files.snap)
+        starts_with(name, files, words_of(words), setup, kind.known())
+    check("there is a start of each kind", len(cases) >= len(KINDS), True)
+
+
+# Numbers that are too small: those of growing.py, of which a fold judges the log's batches with the snapshot's, and
+# others that show the order: rows, columns, limit, most batches.
+TOO_SMALL = [
+    *[(given, told) for given, told, _ in MISFITS],
+    ({"rows": 2, "cols": 2}, "rows: the file has 3, 2 was given"),
+    ({"rows": 2, "limit": 9}, "rows: the file has 3, 2 was given"),
+    ({"cols": 2, "limit": 9, "most": 2}, "cols: the file has 3, 2 was given"),
+    ({"cols": 2, "most": 2}, "cols: the file has 3, 2 was given"),
+    ({"limit": 9, "most": 2}, "limit: the file has 10, 9 was given"),
+    ({"rows": 3, "cols": 3, "limit": 8}, "limit: the file has 10, 8 was given"),
+    ({"rows": 2**60, "cols": 1, "cuts": (), "shards": 64}, "cols: the file has 3, 1 was given"),
+]
+
+
+PLACES = "in place", "to a new file"
+
+
+def refused_of(name, kind, more, told, status, places=PLACES):
+    """A fold that is refused in place and into a new file: what it reports, and that no file is made or changed."""
+    for where in places:
+        files = files_of(f"refused {name} {where}", kind)
+        before = files.all_bytes()
+        words = ["--to", out_of(files)] if where != "in place" else []
+        found = fold(files, *words, *more, with_log=kind.log is not None)
+        check(f"{name}, {where}: outputs", found, ("", f"hhm: {told}\n", status))
+        check(f"{name}, {where}: the files", files.all_bytes(), before)
+        locks = {it: content(os.path.join(files.folder, it)) for it in os.listdir(files.folder) if it.endswith(".lock")}
+        may_lock = where == "in place" and not told.startswith("settings: Bad")
+        check(f"{name}, {where}: locks", locks, {it: b"" for it in locks} if may_lock else {})
+
+
+def numbers_that_do_not_fit_are_refused():
+    """By the first number's name, with what the files have and what was given; in place and into a new file in turn."""
+    for row, kind in enumerate(KINDS):
+        for place, (given, told) in enumerate(TOO_SMALL if kind in growing.KINDS else TOO_SMALL[row % 3 :: 3]):
+            where, told = PLACES[(row + place) % 2], f"settings: SnapshotDiffers ({told})"
+            refused_of(f"{kind.name} with {given}", kind, words_of(given), told, 2, [where])
+
+
+def other_numbers_need_the_log():
+    """Of a snapshot that goes with a log, other numbers are refused without it, whether they fit or not."""
+    told = "settings: NeedsLog (PATH: a log goes with it)"
+    for name, held in [("a snapshot", growing.snap_of(ALL, origin=PAIRED)),
+                       ("a folded snapshot", growing.snap_of([], origin=PAIRED, folded=ALL))]:  # fmt: skip
+        kind = growing.Kind(f"{name} of a pair", SNAP, held, None, None, None)
+        for given in [*OTHERS, *[it for it, _ in TOO_SMALL]]:
+            refused_of(f"{kind.name} with {given}", kind, words_of(given), told, 2)
+        for given in [it for it in FITTING if it not in OTHERS]:
+            for words in ([], ["--to"]):
+                files = files_of(f"{kind.name}, {given}, {words}", kind)
+                found = fold(files, *words, *([out_of(files)] if words else []), *words_of(given))
+                check(f"{kind.name} with the same numbers {given}, {words}", found, (line(ALL), "", 0))
+                wanted = growing.snap_of([], SMALL, PAIRED, folded=ALL)
+                made = out_of(files) if words else files.snap
+                check(f"{kind.name} with {given}, {words}: the file", held_in(made), wanted)
+
+
+# Words that no setup has, and what is reported.
+BAD = [
+    ("rows", "x", "BadNumber"), ("rows", "18446744073709551616", "BadNumber"), ("rows", "+3", "BadNumber"),
+    ("rows", "0", "BadDimension"), ("rows", str(2**60 + 1), "BadDimension"), ("cols", "3 ", "BadNumber"),
+    ("cols", "0", "BadDimension"), ("cols", str(2**60 + 1), "BadDimension"), ("cuts", "1,,2", "BadNumber"),
+    ("cuts", "4,4", "BadCuts"), ("cuts", "0", "BadCuts"), ("cuts", str(2**40 + 1), "BadCuts"),
+    ("cuts", "1,2,3,4,5,6,7,8", "BadCuts"), ("shards", "two", "BadNumber"), ("shards", "0", "BadShards"),
+    ("shards", "65", "BadShards"), ("limit", "1.5", "BadNumber"), ("limit", "0", "BadLimit"),
+    ("most", "1e3", "BadNumber"), ("most", "0", "BadBatches"), ("most", str(2**30 + 1), "BadBatches"),
+]  # fmt: skip
+
+
+def bad_numbers_are_refused():
+    """As by a server, before any file is read or made: of a pair, of damage, and where nothing is there."""
+    pair, damage = growing.KINDS[4], growing.Kind("damage", SNAP, b"no snapshot", None, None, None)
+    for name, word, told in BAD:
+        for kind in (pair, damage, growing.Kind("nothing", SNAP, None, None, None, None)):
+            words = [OPTIONS[name], word]
+            refused_of(f"{kind.name} with {words}", kind, words, f"settings: {told}", 2)
+    # All are read before the setup is judged, and that in the order of its numbers.
+    for words, told in [(["--rows", "0", "--max-batches", "x"], "BadNumber"),
+                        (["--max-batches", "0", "--cuts", "4,4", "--rows", "0"], "BadDimension"),
+                        (["--max-batches", "0", "--limit", "0", "--shards", "0", "--cuts", "2,1"], "BadCuts"),
+                        (["--max-batches", "0", "--limit", "0", "--shards", "0"], "BadShards"),
+                        (["--max-batches", "0", "--limit", "0"], "BadLimit")]:  # fmt: skip
+        refused_of(f"several, {words}", damage, words, f"settings: {told}", 2)
+    # They come before a name that is refused and a file that is there; a number that doesn't fit comes after these.
+    files = files_of("bad numbers and names", pair)
+    before = files.all_bytes()
+    for words, told, status in [([files.snap + ".new"], "settings: BadPath (PATH)", 2),
+                                ([files.snap, "--log", files.log + ".lock"], "settings: BadPath (LOG)", 2),
+                                ([files.snap, "--to", out_of(files) + ".new"], "settings: BadPath (OUT)", 2),
+                                ([files.snap, "--to", files.log], "file: Exists (OUT)", 4),
+                                ([files.snap + ".none"], "file: NotFound", 4)]:  # fmt: skip
+        bad = hhm("fold", *words, "--rows", "0")
+        check(f"a bad number and {told}", bad, ("", "hhm: settings: BadDimension\n", 2))
+        check(f"a small number and {told}", hhm("fold", *words, "--rows", "2"), ("", f"hhm: {told}\n", status))
+    check("bad numbers and names: the files", files.all_bytes(), before)
+    # Damage comes before any number that the file is judged by.
+    refused_of("damage and rows", damage, ["--rows", "1"], "snapshot: BadMark", 3)
+    for words in (["--rows"], ["--rows", "4", "--rows", "4"]):
+        files = files_of(f"no command line {words}", pair)
+        before = files.all_bytes()
+        found = fold(files, *words, with_log=True)
+        check(f"{words}: outputs", (found[0], found[1].startswith("error: "), found[2]), ("", True, 2))
+        check(f"{words}: the files", files.all_bytes(), before)
+
+
+def a_grown_copy_takes_a_later_log():
+    """The server goes on under the old numbers meanwhile: what it logs fits more rows, and perhaps no smaller limit."""
+    for given, more in [({"rows": 9, "cols": 4}, {}), ({"rows": 9, "limit": 7}, {"limit": 8})]:
+        files = Numbers(f"copy {given}", BOTH)
+        with files.serve(*words_of(SMALL._asdict())) as at:
+            with at.link() as link:
+                check(f"copy {given}: put", asked(link, put_of(FIVE), 21), accepted(0, 5))
+                found = fold(files, "--to", out_of(files), *words_of(given), with_log=True)
+                check(f"copy {given}: fold", found, (line(F), "", 0))
+                check(f"copy {given}: put more", asked(link, put_of(THREE), 21), accepted(1, 8))
+            kill(at)
+        copy = Numbers(f"copy {given} of it", BOTH, held_in(out_of(files)))
+        shutil.copy(files.log, copy.log)
+        check(f"copy {given}: its setup", growing.snap_setup(copy), SMALL._replace(**given))
+        if more:
+            before = copy.all_bytes()
+            check(f"copy {given}: a start", copy.start(), ("", "hhm: log: NotFresh at batch 1\n", 3))
+            check(f"copy {given}: its files", copy.all_bytes(), before)
+        check(f"copy {given}: a start with {more}", copy.start(*words_of(more)), stopped(2, 8))
+        check(f"copy {given}: then the setup", growing.snap_setup(copy), SMALL._replace(**{**given, **more}))
 
 
 REFUSALS = re.compile(r"hhm: file: (Create|Write|Sync|Rename)\n")
+GROWN = {"rows": 9, "cuts": (), "shards": 7, "limit": 8, "most": 2}
 
 
 class Folded(Broken):
     """Files whose fold makes calls that can fail or be its last."""
 
-    # The words behind the paths.
-    how_made = ()
+    # The words behind the paths, and the numbers that the fold is given.
+    how_made, given = (), {}
 
     def start(self, *more):
-        return fold(self, *self.how_made, with_log=True, **self.room.how())
+        return fold(self, *self.how_made, *words_of(self.given), with_log=True, **self.room.how())
 
-    def begins(self):
-        """How a server on these files ends."""
-        return Files.start(self, **self.room.how())
+    def words(self, *more):
+        return Numbers.words(self, *more)
+
+    def begins(self, numbers):
+        """How a server on these files ends that is given these numbers."""
+        return Files.start(self, *words_of(numbers), **self.room.how())
 
 
-# Files at whose fold each call fails or is the last: a name, the snapshot, the log, and the words.
+# Files at whose fold each call fails or is the last: a name, the snapshot, the log, the words, and the numbers.
 BROKEN = [
-    ("a pair", snap_of(F, PAIRED), log_of(THREE, behind=F, origin=OWNED), ()),
-    ("a log alone", None, log_of(*FT, origin=OWNED), ()),
-    ("a pair, to a new file", snap_of(F, PAIRED), log_of(THREE, behind=F, origin=OWNED), ("--to",)),
+    ("a pair", snap_of(F, PAIRED), log_of(THREE, behind=F, origin=OWNED), (), {}),
+    ("a log alone", None, log_of(*FT, origin=OWNED), (), {}),
+    ("a pair, to a new file", snap_of(F, PAIRED), log_of(THREE, behind=F, origin=OWNED), ("--to",), {}),
+    ("a pair that grows", snap_of(F, PAIRED), log_of(THREE, behind=F, origin=OWNED), (), GROWN),
+    ("a log that grows", None, log_of(*FT, origin=OWNED), (), GROWN),
 ]
+
+
+def both_start(name, files):
+    """What is left starts by no numbers, with those that the snapshot says, and by the given ones."""
+    held = [(path, content(path) if os.path.exists(path) else None) for path in (files.snap, files.log)]
+    for numbers in ({}, files.given or SMALL._asdict()):
+        for path, was in held:
+            if was is not None:
+                write(path, was)
+            elif os.path.exists(path):
+                os.remove(path)
+        setup = (growing.snap_setup(files) if held[0][1] else SMALL)._replace(**numbers)
+        check(f"{name}: a start with {numbers}", files.begins(numbers), stopped(2, 8))
+        found = growing.snap_setup(files), Log(held_in(files.log)).setup
+        check(f"{name}: then the setups with {numbers}", found, (setup, setup))
 
 
 def all_is_whole(name, files, ended):
     """Each file is as it was, or as the fold leaves it; a server starts and has all."""
-    before, after = files.before[0], snap_of([], PAIRED, folded=FT)
+    before, after = files.before[0], growing.snap_of([], SMALL._replace(**files.given), PAIRED, folded=FT)
     check(f"{name}: the log", held_in(files.log), files.before[1])
     made = out_of(files) if files.how_made else files.snap
     held = held_in(made)
@@ -322,15 +566,15 @@ def all_is_whole(name, files, ended):
         check(f"{name}: the snapshot", held_in(files.snap), before)
     if ended[2] == 0:
         check(f"{name}: it is made", held, after)
-    check(f"{name}: a start", files.begins(), stopped(2, 8))
+    both_start(name, files)
 
 
 def each_call_of_a_fold_may_be_the_last():
     """A fold that is killed before a call that changes a file, or whose call fails, leaves the old or the new one."""
-    for name, snap, logged, words in BROKEN:
-        for action in (DIE_BEFORE, FAIL):
+    for name, snap, logged, words, given in BROKEN:
+        for action in (DIE_BEFORE, FAIL) if snap else (DIE_BEFORE,):
             files = Folded(f"fold {name} {action}", BOTH, snap, logged)
-            files.how_made = (*words, out_of(files)) if words else ()
+            files.how_made, files.given = (*words, out_of(files)) if words else (), given
             calls = list(files.calls())
             check(f"{name}: there are calls", len(calls) > 4, True)
             for call, number in calls:
@@ -346,6 +590,7 @@ def each_call_of_a_fold_may_be_the_last():
 
 def all_are_tried():
     Room.library = library_of("lose_power.c", server.FOLDER)
+    Quick.env = {**Room(in_folder("no waiting")).how()["env"], "POWER_FOLDER": server.FOLDER}
     run_each(
         folds_replace_the_snapshot,
         folds_make_a_new_file,
@@ -357,6 +602,13 @@ def all_are_tried():
         a_copy_goes_with_its_log,
         links_lead_to_both,
         an_output_may_fail,
+        other_numbers_are_taken,
+        numbers_are_those_of_the_last_fold,
+        servers_start_with_other_numbers,
+        numbers_that_do_not_fit_are_refused,
+        other_numbers_need_the_log,
+        bad_numbers_are_refused,
+        a_grown_copy_takes_a_later_log,
         each_call_of_a_fold_may_be_the_last,
     )
 

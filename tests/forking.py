@@ -15,7 +15,7 @@ import server
 from identity import F, FT, Files, OTHER, held_in, log_of, snap_of
 from server import WAIT, accepted, check
 from server_faults import STOP, STOPPING, asked, in_folder, write
-from server_log import FIVE, THREE, hhm, put_of, run_each
+from server_log import CLOSED, FIVE, THREE, hhm, put_of, run_each, without
 from snap_bytes import BOOK, OWNED, PAIRED, UNKNOWN, Origin, Snapshot
 
 BOTH = ("--snapshot", "--log")
@@ -170,6 +170,37 @@ def an_output_may_fail():
     check("a full output: the file", files.names(), ["out", "snap"])
 
 
+def closed_streams_are_no_files():
+    """A line that can't be written goes to no lock's file, and neither does the warning; the new file is made."""
+    pair = snap_of(F, PAIRED), log_of(THREE, behind=F, origin=OWNED)
+    for name, snap, logged, with_log, told, is_warned in [
+        ("a snapshot", snap_of(F, OWNED), None, False, line(1, 5), False),
+        ("a pair", *pair, True, line(2, 8), False),
+        ("a pair without its log", *pair, False, line(1, 5), True),
+        ("a log alone", None, log_of(*FT, origin=OWNED), True, line(2, 8), False),
+    ]:
+        for closed in CLOSED:
+            files = Files(f"fork {name} without {closed}", BOTH, snap, logged)
+            before = files.all_bytes()
+            error = WARNING.format(snap=files.snap) if is_warned else ""
+            wanted = told, error, 0
+            if 1 in closed:
+                # (the warning comes after the line)
+                wanted = "", "hhm: output failed after 0 bytes\n", 4
+            if 2 in closed:
+                wanted = wanted[0], "", wanted[2]
+            found = fork(files, with_log=with_log, **without(closed))
+            check(f"{name} without {closed}: outputs", found, wanted)
+            left = files.all_bytes()
+            batches = FT if "total 8" in told else F
+            out, origin = left.pop("out")[2], Snapshot(held_in(os.path.join(files.folder, "out"))).origin
+            check(f"{name} without {closed}: the file", out, snap_of(batches, Origin(origin.book)))
+            check(f"{name} without {closed}: the other files", left, before)
+            locks = [it for it in os.listdir(files.folder) if it.endswith(".lock")]
+            held = {it: held_in(os.path.join(files.folder, it)) for it in locks}
+            check(f"{name} without {closed}: the locks", held, {it: b"" for it in locks})
+
+
 def all_are_tried():
     run_each(
         forks_are_of_a_new_book,
@@ -178,6 +209,7 @@ def all_are_tried():
         a_server_keeps_its_files,
         a_link_leads_to_the_snapshot,
         an_output_may_fail,
+        closed_streams_are_no_files,
     )
 
 

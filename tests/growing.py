@@ -12,6 +12,7 @@ fails. Linux, Python's own library and the toolchain of Rattle.
 """
 import os
 import random
+import re
 import signal
 import struct
 import sys
@@ -19,7 +20,7 @@ from typing import NamedTuple, Optional
 
 import log_bytes
 import server
-from disks import BEGUN, CLOSES, DIE_BEFORE, FAIL, OPENS, RENAMES, SENDS, WRITES, Disk, Room, records_of
+from disks import BEGUN, CLOSES, DIE_BEFORE, FAIL, OPENS, READS, RENAMES, SENDS, WRITES, Disk, Room, records_of
 from given import DEFAULTS, new_setup, steps, words_of
 from identity import BOTH, LOG, REFUSALS, SNAP, Broken, Files, book_of, held_in, told_lines, total_of
 from log_bytes import SMALL, Log, Setup, entry_of, log
@@ -605,6 +606,41 @@ def each_call_of_a_growing_start_may_fail():
             what_is_left_starts(at, files)
 
 
+READ_REFUSALS = re.compile(r"hhm: log: (Read at page 0|Sync|Create)\n")
+
+
+def logs_that_cannot_be_read_are_told():
+    """Without a snapshot the numbers are those of the log's first page. Where that can't be read or opened, the fault says
+    which, no file is made or changed, and the next start has all. Each other read of a start may fail too.
+    """
+    for name, options, logged in [("a log", LOG, log_of(ALL)), ("a log and no snapshot", BOTH, log_of(ALL)),
+                                  ("an old log", LOG, log_of(ALL, origin=None))]:  # fmt: skip
+        for given in ({"rows": 9}, {"rows": 2, "limit": 1}):
+            files = Growth(f"unread {name} {given}", options, None, logged, given)
+            # (of the openings of what has the log's name before its own the first is that of the lock)
+            for call, number, told in [(READS, 1, "Read at page 0"), (OPENS, 1, "Create"), (OPENS, 2, "Create")]:
+                files.lay_out()
+                before = files.all_bytes()
+                files.room.page.arm(call, FAIL, number)
+                ended = files.start()
+                files.room.page.disarm()
+                check(f"unread {name}, {given}: {call}, {number}", ended, ("", f"hhm: log: {told}\n", 4))
+                check(f"unread {name}, {given}: {call}, {number}: the files", files.all_bytes(), before)
+                check(f"unread {name}, {given}: {call}, {number}: then", files.start_with({}), stopped(3, 10))
+        if name == "a log":
+            continue
+        files = Growth(f"unread {name} then", options, None, logged, {"rows": 9, "limit": 1000})
+        files.broken_start(READS, 2**40, FAIL)
+        reads = files.room.page.count(READS)
+        check(f"unread {name}: there are reads", reads > 2, True)
+        for number in range(2, reads + 1):
+            at = f"unread {name}: read {number} fails"
+            ended = files.broken_start(READS, number, FAIL)
+            told = ended[0] == "" and READ_REFUSALS.fullmatch(ended[1]) is not None and ended[2] == 4
+            check(f"{at}: {ended}", ended == stopped(3, 10) or told, True)
+            what_is_left_starts(at, files)
+
+
 def power_is_lost_at_a_growing_start():
     """Behind each of its calls power is lost; once it has answered, the files say the new numbers."""
     for name, options, snap, logged, given in [row for row in BROKEN if row[0] in FAILING]:
@@ -652,6 +688,7 @@ def all_are_tried():
         a_crash_leaves_pairs_that_start,
         each_call_of_a_growing_start_may_be_the_last,
         each_call_of_a_growing_start_may_fail,
+        logs_that_cannot_be_read_are_told,
         power_is_lost_at_a_growing_start,
     )
 

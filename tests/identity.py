@@ -63,7 +63,7 @@ def held_in(path):
     if not held.startswith(b"HHM-LOG\n"):
         return held
     # The many pages of 00 behind the last other byte, which are written ahead, need no look.
-    held = held[: -(-len(held.rstrip(b"\0")) // PAGE) * PAGE]
+    held = held[: -(-len(log_bytes.without_zeros(held)) // PAGE) * PAGE]
     return held[: PAGE * Log(held).whole()]
 
 

@@ -12,6 +12,7 @@ from snap_bytes import BOOK, MOST, OWNED, SIZE, UNKNOWN, Origin, crc32c, field, 
 PAGE = 4_096
 CHUNK = 4_072
 MOST_BYTES = 2**40
+ZEROS = bytes(65_536)
 
 
 class Setup(NamedTuple):
@@ -115,6 +116,14 @@ class JoinFault(Exception):
 
 def number_in(held, at, size=8):
     return int.from_bytes(held[at : at + size], "big")
+
+
+def without_zeros(held):
+    """The bytes up to the last that isn't 00. (`rstrip` alone takes a hundred times as long on a log.)"""
+    end = len(held)
+    while held[max(0, end - len(ZEROS)) : end] == ZEROS:
+        end -= len(ZEROS)
+    return held[:end].rstrip(b"\0")
 
 
 def page_kind(held):

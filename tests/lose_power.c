@@ -22,13 +22,13 @@ extern long syscall(long, ...);
 extern int *__errno_location(void);
 
 enum {
-    READ = 0, WRITE = 1, OPEN = 2, CLOSE = 3, FSTAT = 5, LSEEK = 8, MMAP = 9, PWRITE = 18, WRITEV = 20,
+    READ = 0, WRITE = 1, OPEN = 2, CLOSE = 3, FSTAT = 5, LSEEK = 8, MMAP = 9, PREAD = 17, PWRITE = 18, WRITEV = 20,
     NANOSLEEP = 35, GETPID = 39, SENDTO = 44, KILL = 62, FCNTL = 72, FSYNC = 74, FDATASYNC = 75, FTRUNCATE = 77,
     RENAME = 82, UNLINK = 87
 };
 
-/* The calls, as records and tests name them. */
-enum call { OPENS = 1, WRITES, CUTS, SYNCS, RENAMES, REMOVES, SYNCS_OF_FOLDERS, SENDS, CLOSES, MOST_CALLS };
+/* The calls, as records and tests name them. READS have no record: they change nothing. */
+enum call { OPENS = 1, WRITES, CUTS, SYNCS, RENAMES, REMOVES, SYNCS_OF_FOLDERS, SENDS, CLOSES, READS, MOST_CALLS };
 
 /* The numbers on the shared page. The call number LEFT of its kind from now on is the first of TIMES in a row at which
  * ACTION is done, of the log alone where LOG_ONLY isn't 0. Each sync takes DELAY microseconds more, and where PRETEND
@@ -179,6 +179,7 @@ int open(const char *path, int flags, ...) {
 
 /* The names that a C library has for the same calls with 64 bits. */
 int open64(const char *, int, ...) __attribute__((alias("open")));
+ssize_t pread64(int, void *, size_t, off_t) __attribute__((alias("pread")));
 ssize_t pwrite64(int, const void *, size_t, off_t) __attribute__((alias("pwrite")));
 int ftruncate64(int, off_t) __attribute__((alias("ftruncate")));
 
@@ -207,6 +208,11 @@ static ssize_t write_followed(int to, const char *bytes, long size, long at) {
     long result = size ? made(syscall(PWRITE, (long)to, bytes, size, at)) : 0;
     if (action == FAIL) result = -page[ERROR];
     return done(action, WRITES, handle, result);
+}
+
+ssize_t pread(int from, void *bytes, size_t size, off_t at) {
+    if (followed(from) && due(READS, is_log[from]) == FAIL) return answer(-page[ERROR]);
+    return syscall(PREAD, (long)from, bytes, size, at);
 }
 
 ssize_t pwrite(int to, const void *bytes, size_t size, off_t at) {

@@ -313,7 +313,8 @@ NO_COMMANDS = [
     ["export", "--cuts", "1", "a"],
     ["fold"],
     ["fold", "a", "b"],
-    ["fold", "--cuts", "1", "a"],
+    ["fold", "--workers", "1", "a"],
+    ["fold", "--cuts", "1", "--cuts", "2", "a"],
     ["check", ""],
     ["export", ""],
     ["fold", ""],
@@ -415,6 +416,19 @@ def an_output_that_fails(program):
 
         with tempfile.TemporaryFile() as file:
             yield case.name, run(program, case, stdout=file, preexec_fn=lambda room=room: leave_room(room))
+
+
+def an_input_that_is_closed(program):
+    """It can't be read, whichever outputs are closed beside it, and no file of the sum takes its place."""
+    with tempfile.TemporaryDirectory() as folder:
+        path = os.path.join(folder, "file")
+        with open(path, "w") as file:
+            file.write(SMALL)
+        for words, place in [(["sum"], ""), (["sum", path, "-"], " of -"), (["sum", "-", path], " of -")]:
+            for closed in [(0,), (0, 1), (0, 2), (0, 1, 2)]:
+                error = "" if 2 in closed else f"hhm: text: Read at line 1{place}\n"
+                case = Case(f"{words[1:]} without {closed}", words, error=error, status=4)
+                yield case.name, run(program, case, preexec_fn=lambda closed=closed: [os.close(it) for it in closed])
 
 
 def an_input_that_stays_open(program):
@@ -750,11 +764,8 @@ def the_example(program):
 
 
 DEVICES = [
-    a_folder_as_input, an_output_that_fails, an_input_that_stays_open, a_limit_of_memory, snapshots, exports,
-    folds,
-    sums_of_files,
-    flipped_bits,
-    the_example,
+    a_folder_as_input, an_output_that_fails, an_input_that_is_closed, an_input_that_stays_open, a_limit_of_memory,
+    snapshots, exports, folds, sums_of_files, flipped_bits, the_example,
 ]  # fmt: skip
 
 

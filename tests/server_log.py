@@ -8,6 +8,7 @@ whose calls fail are in server_log_faults.py. What is wanted was worked out by h
 of logs are those of log_bytes.py. It prints a line for each check that fails and at the end `N passed, M failed`; the
 status is 1 where one fails. Linux, and nothing but Python's own library.
 """
+import itertools
 import os
 import shutil
 import signal
@@ -23,9 +24,11 @@ import server
 from log_bytes import Log, block, entry_of, fields, head, log, pages_of, with_book
 from server import SMALL, WAIT, Server, accepted, check, content, put_frame, refused, text
 from server_faults import OTHER, SAVE, STATUS, STOP, STOPPING, asked, counts, in_folder, in_snap, write
-from snap_bytes import OWNED, PAIRED, with_byte
+from snap_bytes import OWNED, PAIRED, FirstFault, with_byte
 
 FIVE, THREE, TWO = (7, 1, [(0, 0, 5)]), (8, 1, [(0, 0, 3)]), (9, 1, [(0, 0, 2)])
+# Which of standard input, output and error are closed before a program begins.
+CLOSED = [it for count in range(4) for it in itertools.combinations(range(3), count)]
 STORED = struct.pack(">IB", 0, 9)
 PAGE = log_bytes.PAGE
 BOTH = entry_of(FIVE), entry_of(THREE)
@@ -61,6 +64,11 @@ def snapshot_of(batches, origin=PAIRED):
     return program.snapshot(batches, sum(entry_of(it)[3] for it in batches), past=program.NONE, origin=origin)
 
 
+def without(streams):
+    """How a program is started without these standard streams."""
+    return {"preexec_fn": lambda: [os.close(it) for it in streams]}
+
+
 def kill(at, number=signal.SIGKILL):
     at.process.send_signal(number)
     at.process.wait(WAIT)
@@ -72,7 +80,7 @@ def in_log(path):
     They are told by the book of the examples, if the log has one: which one a server draws can't be known.
     """
     held = content(path)
-    held = held[: -(-len(held.rstrip(b"\0")) // PAGE) * PAGE]
+    held = held[: -(-len(log_bytes.without_zeros(held)) // PAGE) * PAGE]
     return with_book(held)[: PAGE * Log(held).whole()]
 
 
@@ -686,6 +694,79 @@ def a_new_log_has_the_access_of_the_old():
     check("no log before: the mode", os.stat(path).st_mode & 0o777, 0o640)
 
 
+def files_of_closed_streams():
+    """The options of a server, the batches in its files, and both files: before it, and with a batch more."""
+    yield "--snapshot", [], None, None, snapshot_of([], OWNED), None
+    yield "--snapshot", [FIVE], snapshot_of([FIVE], OWNED), None, snapshot_of([FIVE, TWO], OWNED), None
+    yield "--log", [], None, None, None, log([[TWO]])
+    yield "--log", [FIVE, THREE], None, log([[FIVE], [THREE]]), None, log([[FIVE], [THREE], [TWO]])
+    yield "--snapshot --log", [], None, None, snapshot_of([]), log([[TWO]])
+    yield ("--snapshot --log", [FIVE, THREE], snapshot_of([FIVE]), log([[THREE]], BOTH[:1]), snapshot_of([FIVE]),
+           log([[THREE], [TWO]], BOTH[:1]))  # fmt: skip
+
+
+def bytes_of_a_book(read, path):
+    """The bytes of a log or a snapshot, told by the book of the examples; what is wrong with them, if they are none."""
+    try:
+        return read(path)
+    except (log_bytes.LogFault, FirstFault) as fault:
+        return repr(fault)
+
+
+def closed_streams_are_no_files():
+    """No line and no event goes to a file that got the number of a closed standard stream, of a lock neither.
+
+    A server that can't say where it listens ends. What its files had, and what it has accepted, is there after a kill.
+    """
+    for closed in CLOSED:
+        for number, row in enumerate(files_of_closed_streams()):
+            options, had, snap_before, log_before, snap_then, log_then = row
+            for events in ([], ["--events"]) if log_before and snap_before else (["--events"],):
+                name = f"without {closed}: {options}, {len(had)}, {events}"
+                folder = in_folder(f"without {closed} {number} {len(events)}")
+                os.makedirs(folder)
+                paths = {"--snapshot": os.path.join(folder, "snap"), "--log": os.path.join(folder, "log")}
+                for path, held in zip(paths.values(), (snap_before, log_before)):
+                    if held:
+                        write(path, held)
+                words = [word for option in options.split() for word in (option, paths[option])]
+                batches = [*had, *serve_without(name, closed, [*words, *events], bool(had))]
+                if 1 in closed:
+                    snap_then = snap_before or snapshot_of([], PAIRED if "--log" in options else OWNED)
+                    log_then = log_before or log([])
+                elif options == "--snapshot" and not had:
+                    batches = []
+                locks = {it: content(os.path.join(folder, it)) for it in os.listdir(folder) if it.endswith(".lock")}
+                wanted = {os.path.basename(paths[option]) + ".lock": b"" for option in options.split()}
+                check(f"{name}: nothing is in the locks", locks, wanted)
+                for option, read, held in (("--snapshot", in_snap, snap_then), ("--log", in_log, log_then)):
+                    if option in options.split():
+                        check(f"{name}: {option}", bytes_of_a_book(read, paths[option]), held)
+                total = sum(entry_of(it)[3] for it in batches)
+                check(f"{name}: a start", started(*words, "--lock-wait", "0"), stopped(len(batches), total))
+
+
+def serve_without(name, closed, words, saves):
+    """A server without these streams, a batch that it accepts and perhaps saves, and a kill: what it has accepted."""
+    if 1 in closed:
+        path = in_folder("without output")
+        found = hhm("serve", "--unix", path, *SMALL, "--sessions", "0", *words, **without(closed))
+        told = found[1] if "--events" not in words else found[1][found[1].rfind("hhm: ") :] if found[1] else ""
+        wanted = "" if 2 in closed else "hhm: output failed after 0 bytes\n"
+        check(f"{name}: it ends", (found[0], told, found[2]), ("", wanted, 4))
+        check(f"{name}: no socket is left", os.path.exists(path), False)
+        return []
+    with Server([*SMALL, *words], tcp=False, **without(closed)) as at:
+        with at.link() as link:
+            check(f"{name}: put", asked(link, put_of(TWO), 21)[:5], accepted(0, 0)[:5])
+            if saves and "--log" not in words:
+                check(f"{name}: save", asked(link, SAVE, 13), saved(2))
+        kill(at)
+        output, error = at.process.communicate(timeout=WAIT)
+        check(f"{name}: no more is written", (output, error if not {"--events"} & {*words} else ""), ("", ""))
+    return [TWO]
+
+
 def settings_come_first():
     """Options are judged before the log is, the snapshot before the log, and the log before any address."""
     path, snap = in_folder("order.log"), in_folder("order.snap")
@@ -741,6 +822,7 @@ def all_are_tried():
         links_are_followed_once,
         rights_that_lack_are_told,
         a_new_log_has_the_access_of_the_old,
+        closed_streams_are_no_files,
         settings_come_first,
     )
 
