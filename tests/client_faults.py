@@ -351,7 +351,8 @@ def many_small_frames_go(name, command):
         at.process.kill()
     with Slow() as slow, Driver(command, slow.path, timeout=5000, attempts=1) as driver:
         check(f"{name}: no room for replies", driver.ask("many", 1, 300, 128, 200), "300 answered")
-    with Slow(50) as slow, Driver(command, slow.path, timeout=500, attempts=2) as driver:
+    # Longer than the peer ever needs for a reply, or the second connection is given up too.
+    with Slow(50) as slow, Driver(command, slow.path, timeout=2000, attempts=2) as driver:
         check(f"{name}: replies of a lost connection", driver.ask("many", 1, 300, 128, 200), "300 answered")
         check(f"{name}: it was lost", len(slow.links), 2)
     with Sink() as sink, Driver(command, sink.path, timeout=500, attempts=1) as driver:

@@ -12,6 +12,7 @@ import argparse
 import re
 import subprocess
 import sys
+import time
 from concurrent.futures import ThreadPoolExecutor
 from pathlib import Path
 
@@ -47,17 +48,20 @@ def counts_of(words, shows=True):
     """
     held = []
     last = ""
-    with subprocess.Popen(words, cwd=TOP, stdout=subprocess.PIPE, text=True, errors="replace") as script:
-        for line in script.stdout:
+    begin = time.monotonic()
+    with subprocess.Popen(words, cwd=TOP, stdout=subprocess.PIPE, text=True, errors="replace") as running:
+        for line in running.stdout:
             held.append(line)
             last = line.rstrip("\n")
             if shows:
                 print(held.pop(), end="", flush=True)
-    print("".join(held), end="", flush=True)
+    if held:
+        script = [Path(it).name for it in words if it.endswith(".py")][-1]
+        print(f"{script}, {time.monotonic() - begin:.0f} s:\n{''.join(held)}", end="", flush=True)
     found = LAST_LINE.fullmatch(last)
-    if found and (script.returncode == 0 or found[2] != "0"):
+    if found and (running.returncode == 0 or found[2] != "0"):
         return int(found[1]), int(found[2])
-    print(f"FAILED {' '.join(words)}: status {script.returncode}", flush=True)
+    print(f"FAILED {' '.join(words)}: status {running.returncode}", flush=True)
     return (int(found[1]) if found else 0), 1
 
 
