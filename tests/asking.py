@@ -13,7 +13,9 @@ import pty
 import random
 import re
 import shutil
+import signal
 import struct
+import subprocess
 import sys
 
 import server
@@ -21,7 +23,7 @@ import hhm_command  # (server.py has put the client's folder on the path)
 from hhm_client import Client
 from hhm_words import Words
 from clients import build
-from peers import Driver, Liar, Proxy, run
+from peers import WAIT, Driver, Liar, Proxy, run
 from server import Server, check
 from stand_in import StandIn, cells_of_range, frame, knows_stats, rows_of_top
 
@@ -337,6 +339,19 @@ def answers_have_forms():
         check("a reader that goes", run([*piped, *PLAIN, "--unix", at.path, "list", "1"])[:2], ("1 0 1\n141\n", ""))
 
 
+def a_reader_that_has_gone():
+    """Where nobody reads what a word writes, SIGPIPE ends it, and no fault is shown: answers, helps and the version."""
+    reading, writing = os.pipe()
+    os.close(reading)
+    with Server(["--rows", "3", "--cols", "3"], tcp=False) as at:
+        for words in [["--help"], ["load", "--help"], ["--version"], ["--unix", at.path, "status"]]:
+            for buffers in ["", "1"]:
+                ended = subprocess.run([*PLAIN, *words], stdout=writing, stderr=subprocess.PIPE, timeout=WAIT,
+                                       env={**os.environ, "PYTHONUNBUFFERED": buffers})
+                check(f"nobody reads: {words[-2:]}", (ended.returncode, ended.stderr), (-signal.SIGPIPE, b""))
+    os.close(writing)
+
+
 def every_help_has_statuses():
     words = hhm_command.parser()
     for name, word in words._subparsers._group_actions[0].choices.items():
@@ -372,6 +387,7 @@ def all_are_tried():
     names_are_shown()
     a_table_grows()
     answers_have_forms()
+    a_reader_that_has_gone()
     every_help_has_statuses()
 
 

@@ -15,6 +15,7 @@ import ctypes
 import itertools
 import os
 import random
+import re
 import resource
 import shutil
 import signal
@@ -33,6 +34,7 @@ import client_faults  # noqa: E402 (server.py has put the client's folder on the
 import hhm_client  # noqa: E402
 import identities  # noqa: E402
 from hhm_client import MAX_CELLS, Arrays, BadReply, Client, Status, cells_of, where_of  # noqa: E402
+from hhm_cluster import Cluster  # noqa: E402
 from peers import WAIT, Liar, Proxy, fault_of, run, started, until  # noqa: E402
 
 LARGE = ["--rows", str(1 << 32), "--cols", str(1 << 32)]
@@ -120,6 +122,16 @@ def addresses_are_exact():
             check(f"the address {word!r}", told in str(fault), True)
 
 
+def one_address_is_meant():
+    """Both command lines that take an address refuse a second one, which would take the place of the first."""
+    how = {"cwd": os.path.join(CLIENTS, "python"), "capture_output": True, "text": True, "timeout": WAIT}
+    for tool in [["hhm_client.py", "status"], ["count_log.py", "--client", "1", "x"]]:
+        for option, words in [("--unix", ["--unix", "a", "--unix", "b"]), ("--tcp", ["--tcp=a:1", "--tcp=b:1"])]:
+            ended = subprocess.run([sys.executable, tool[0], *words, *tool[1:]], **how)
+            told = ended.stderr.endswith(f"error: argument {option}: given twice, and one is meant\n")
+            check(f"{tool[0]} {words}", (ended.stdout, told, ended.returncode), ("", True, 2))
+
+
 def a_wait_is_told_and_ends():
     """After two seconds without a server a client says so, once, and goes on; `wait` ends that, with 0 at once."""
     path = os.path.join(server.FOLDER, "late")
@@ -131,6 +143,9 @@ def a_wait_is_told_and_ends():
                          ("3", ("FileNotFoundError True\n", f"waiting for the server at {path}\n"))]:
         ended = subprocess.run([sys.executable, "-c", script, path, wait], **how)
         check(f"wait={wait}", (ended.stdout, ended.stderr), wanted)
+    with Cluster([path, path], client=7, generation=1, by="rows", wait=0) as hhm:
+        told = fault_of(hhm.status)
+        check("wait=0 of a cluster", told, "FileNotFoundError")
     for wait in [-1, float("nan")]:
         try:
             Client(unix=path, wait=wait)
@@ -367,6 +382,30 @@ def examples_ask_all(unix, examples):
                 at.ends(f"the example for {name}", 7, 40)
 
 
+def examples_go_as_written():
+    """The commands of clients/README.md, as they are there: what they print, and that they leave nothing here."""
+    with open(os.path.join(CLIENTS, "README.md"), encoding="utf-8") as file:
+        walks = re.findall(r"^```\n(out=.*?)^```$", file.read(), re.M | re.S)
+    programs, here = (os.path.join(server.FOLDER, name) for name in ("programs", "checkout"))
+    for folder in (programs, here):
+        os.mkdir(folder)
+    os.symlink(server.PROGRAM, os.path.join(programs, "hhm"))
+    os.symlink(os.path.join(CLIENTS, "python", "hhm_client.py"), os.path.join(programs, "hhmc"))
+    os.symlink(CLIENTS, os.path.join(here, "clients"))
+    found = {**os.environ, "PATH": f"{programs}:{os.environ['PATH']}", "TMPDIR": server.FOLDER}
+    once = ["listening unix OUT/sock", *EXAMPLE.splitlines(), "stopped batches 7 total 40"]
+    flows = ["listening unix OUT/sock", *["sent batches 1"] * 3, "stopping", "stopped batches 1 total 37"]
+    check("clients/README.md: walks", len(walks), 2)
+    for walk, wanted in zip(walks, [once * 2, flows]):
+        # (a server and its clients write side by side)
+        ended = subprocess.run(["bash", "-c", f"{walk}\nwait"], cwd=here, env=found, capture_output=True, text=True,
+                               timeout=10 * WAIT)
+        lines = re.sub(re.escape(server.FOLDER) + r"/tmp\.\w+", "OUT", ended.stdout).splitlines()
+        check(f"clients/README.md: walk {len(wanted)}", (sorted(lines), ended.stderr, ended.returncode),
+              (sorted(wanted), "", 0))
+    check("clients/README.md: nothing is left", os.listdir(here), ["clients"])
+
+
 def wrong_words_are_told(examples, feeds):
     for name, program in examples.items():
         for words in [[], ["--unix"], ["--other", "x"], ["--unix", "x", "y"]]:
@@ -561,7 +600,10 @@ def main():
             examples_ask_all(unix, examples)
             flows_are_fed(unix, commands)
         addresses_are_exact()
+        one_address_is_meant()
         a_wait_is_told_and_ends()
+        if not missing:
+            examples_go_as_written()
         lies_are_told(examples)
         a_log_is_told_of(examples)
         wrong_words_are_told(examples, commands)

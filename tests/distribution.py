@@ -330,11 +330,13 @@ def tour_of(text):
 
 
 def tour_is_as_written(name, prefix):
-    """All sessions of README.md, one after another in one shell, write what is below their commands."""
+    """All sessions of README.md, one after another in one shell, write what is below their commands, and leave nothing
+    in the folder where they begin."""
     sessions, programs = tour_of(content(f"{TOP}/README.md").decode())
     check("README.md: programs", sorted(programs), ["ask.c", "ask.py", "ask.rs"])
-    folder = os.path.join(server.FOLDER, name)
-    os.makedirs(folder)
+    folder, here = (os.path.join(server.FOLDER, it, name) for it in ("tour", "checkout"))
+    for it in (folder, here):
+        os.makedirs(it)
     for file, text in programs.items():
         with open(os.path.join(folder, file), "w") as out:
             out.write(text)
@@ -343,8 +345,9 @@ def tour_is_as_written(name, prefix):
     commands = [it[2:] for it in lines if it.startswith("$ ") and not any(f"{tool} " in it for tool in missing)]
     # The tour's own folder is made, and the programs are there as a reader has written them.
     begin = f"mktemp() {{ echo {folder}; }}"
-    status, output, error = ran("bash", "-c", "\n".join([begin, *commands, "wait"]), cwd=folder,
+    status, output, error = ran("bash", "-c", "\n".join([begin, *commands, "wait"]), cwd=here,
                                 env={**beside(prefix), "XDG_STATE_HOME": folder})
+    check(f"README.md, {name}: what is left", os.listdir(here), [])
     wanted = [it for it in lines if not it.startswith("$ ")]
     if missing:
         # (without a compiler there are fewer batches)

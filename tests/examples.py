@@ -1,12 +1,13 @@
 #!/usr/bin/env python3
-"""Reads the files of examples/ for Kubernetes, Prometheus and Grafana, and tries what of them can be tried.
+"""Reads the files of examples/ for Kubernetes, systemd, Prometheus and Grafana, and tries what of them can be tried.
 
     python3 tests/examples.py PATH-TO-HHM
 
 The container's command runs as process 1 of a namespace; each name of a metric must be one that `hhmc metrics` writes
-of a server that has put, saved and refused. Where there is no `promtool`, no module `yaml`, or no right to make a
-namespace, a line says so. It prints a line for each check that fails and at the end `N passed, M failed`; the status
-is 1 where one fails. Linux, and nothing but Python's own library and the clients of clients/python.
+of a server that has put, saved and refused. Where there is no `promtool`, no `systemd-analyze`, no module
+`yaml`, or no right to make a namespace, a line says so. It prints a line for each check that fails and at the end
+`N passed, M failed`; the status is 1 where one fails. Linux, and nothing but Python's own library and the clients of
+clients/python.
 """
 import contextlib
 import json
@@ -135,6 +136,47 @@ def kubernetes():
     known = "".join(ran(*it, "--help")[1] for it in [(server.PROGRAM, "serve"), (f"{TOP}/tools/hhm-run",)])
     check("kubernetes: options", [it for it in command[1:] if f" {it.partition('=')[0]} " not in known], [])
     the_container_ends_in_order(command)
+
+
+# systemd.
+
+UNITS = ("hhm@.service", "hhm-hours.service", "hhm-hours.timer")
+
+
+def settings_of(unit):
+    """The lines NAME=VALUE of a unit, those that go on below as one."""
+    return dict(re.findall(r"^(\w+)=(.*)$", unit.replace("\\\n", " "), re.M))
+
+
+def systemd():
+    """Both units end in order at a signal, and aren't started again where the status says that it can't help."""
+    with open(os.path.join(TOP, "tools", "hhm.service"), encoding="utf-8") as file:
+        package = settings_of(file.read())
+    hour = settings_of(text_of("systemd", "hhm@.service"))
+    program, *words = hour["ExecStart"].split()
+    known = "".join(ran(*it, "--help")[1] for it in [(server.PROGRAM, "serve"), (f"{TOP}/tools/hhm-run",)])
+    check("systemd: options", [it for it in words if it.startswith("--") and f" {it} " not in known], [])
+    # docs/OPERATING.md: 2 for the options, 3 for a file that is none of hhm's, 5 for memory.
+    for name, unit in [("hhm.service", package), ("hhm@.service", hour)]:
+        check(f"{name}: the program", unit["ExecStart"].split()[0], "/usr/local/bin/hhm-run")
+        check(f"{name}: starts", (unit["Restart"], unit["RestartPreventExitStatus"]), ("on-failure", "2 3 5"))
+        check(f"{name}: its end", (unit["KillMode"], unit["TimeoutStopSec"]), ("mixed", "900"))
+    if not shutil.which("systemd-analyze"):
+        print("not tried: the units by systemd: there is no systemd-analyze")
+        return
+    places = {"/usr/local/bin/hhm-run": f"{TOP}/tools/hhm-run",
+              "/usr/local/lib/hhm/hours.sh": f"{TOP}/examples/systemd/hours.sh"}
+    folder = os.path.join(server.FOLDER, "units")
+    os.mkdir(folder)
+    for name in UNITS:
+        text = text_of("systemd", name)
+        for old, new in places.items():
+            text = text.replace(old, new)
+        with open(os.path.join(folder, name.replace("@", "@2026112718")), "w") as file:
+            file.write(text)
+    paths = [os.path.join(folder, it) for it in sorted(os.listdir(folder))]
+    status, output, error = ran("systemd-analyze", "verify", "--man=no", *paths)
+    check("systemd-analyze verify", (status, [it for it in (output + error).splitlines() if "hhm" in it]), (0, []))
 
 
 # Prometheus and Grafana.
@@ -273,6 +315,7 @@ def the_reader_refuses_what_it_cant_read():
 def all_are_tried():
     the_reader_refuses_what_it_cant_read()
     kubernetes()
+    systemd()
     names = names_that_are_written()
     alerts(names)
     dashboard(names)

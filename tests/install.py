@@ -141,24 +141,35 @@ def bad_words_install_nothing():
     check("help", (status, "--unproved" in output, error), (0, True, ""))
 
 
+def checkout_in(folder):
+    """A copy of the checkout without its crates, and an environment whose programs are first those of FOLDER/bin."""
+    top, programs = os.path.join(folder, "top"), os.path.join(folder, "bin")
+    for name in ["tools", "clients", "docs", "examples"]:
+        shutil.copytree(os.path.join(TOP, name), os.path.join(top, name))
+    for name in ["README.md", "CHANGELOG.md", "LICENSES"]:
+        shutil.copy(os.path.join(TOP, name), top)
+    os.makedirs(os.path.join(top, "crates", "hhm"))
+    os.mkdir(programs)
+    return top, {**os.environ, "PATH": f"{programs}:{os.environ['PATH']}"}
+
+
+def program_of(folder, name, text):
+    """A shell script of this name among the programs of FOLDER/bin."""
+    path = os.path.join(folder, "bin", name)
+    with open(path, "w") as file:
+        file.write(f"#!/bin/sh\n{text}\n")
+    os.chmod(path, 0o755)
+
+
 def only_what_was_built_is_installed():
     """The two ways that build, with an `rt` that only says that it proved, or that it didn't."""
     with tempfile.TemporaryDirectory() as folder:
-        top, prefix, asked = (os.path.join(folder, it) for it in ["top", "prefix", "asked"])
-        for name in ["tools", "clients", "docs", "examples"]:
-            shutil.copytree(os.path.join(TOP, name), os.path.join(top, name))
-        for name in ["README.md", "CHANGELOG.md", "LICENSES"]:
-            shutil.copy(os.path.join(TOP, name), top)
-        os.makedirs(os.path.join(top, "crates", "hhm"))
-        os.mkdir(os.path.join(folder, "bin"))
-        rt = os.path.join(folder, "bin", "rt")
-        found = {**os.environ, "PATH": f"{folder}/bin:{os.environ['PATH']}"}
-        script = (f"#!/bin/sh\n[ $1 = version ] && exit 1\necho \"$PWD $*\" > {asked}\n"
+        prefix, asked = (os.path.join(folder, it) for it in ["prefix", "asked"])
+        top, found = checkout_in(folder)
+        script = (f"[ $1 = version ] && exit 1\necho \"$PWD $*\" > {asked}\n"
                   f"mkdir -p out && cp {server.PROGRAM} out/hhm\nexit ")
         for status, wanted in [(1, set()), (0, set(FILES))]:
-            with open(rt, "w") as file:
-                file.write(f"{script}{status}\n")
-            os.chmod(rt, 0o755)
+            program_of(folder, "rt", f"{script}{status}")
             ended = ran(os.path.join(top, "tools", "install.sh"), prefix, env=found, timeout=INSTALL_WAIT)
             check(f"a proof that ends with {status}", (ended[0], files_below(prefix)), (status, wanted))
             check("what is proved", content(asked).decode(), f"{top}/crates/hhm run -- --version\n")
@@ -169,6 +180,24 @@ def only_what_was_built_is_installed():
         check("no build without a toolchain", (ended[0], files_below(prefix)), (1, set()))
         check("why", ended[2].splitlines()[-1], "install: hhm wasn't built, and nothing is installed")
         check("what it means", "Nothing is proved of this program" in ended[1], True)
+
+
+def a_long_build_says_how_far_it_is():
+    """Each minute, of which a `sleep` of this test makes a tenth of a second, the last line of the build is shown."""
+    for writes, wanted in [("echo first >&2\necho 'crate 3 of 40' >&2", "crate 3 of 40"), ("", "the build goes on")]:
+        with tempfile.TemporaryDirectory() as folder:
+            top, found = checkout_in(folder)
+            slept = os.path.join(folder, "slept")
+            program_of(folder, "sleep", f'[ "$1" = 60 ] && echo "$1" >>{slept}\nexec {shutil.which("sleep")} 0.1')
+            program_of(folder, "rt", f"{writes}\ntouch {slept}\nat=0\n"
+                                     f"while [ $(wc -l <{slept}) -lt 4 ] && [ $at -lt 300 ]; do\n"
+                                     "    at=$((at + 1))\n    sleep 1\ndone\nexit 1")
+            status, output, _ = ran(os.path.join(top, "tools", "install.sh"), os.path.join(folder, "prefix"), env=found,
+                                    timeout=INSTALL_WAIT)
+            lines = output.splitlines()
+            check("a build: its step", (status, lines[0].startswith("Step 1 of 2: build hhm ")), (1, True))
+            minutes = [re.sub(r"\d+", "N", it, count=1) for it in lines[1:]]
+            check("a build: each minute", (len(minutes) >= 3, minutes[-1:]), (True, [f"  N s: {wanted}"]))
 
 
 def the_page_has_all_options(prefix):
@@ -238,10 +267,10 @@ def server_of(wrapper):
 class Served:
     """A server that the installed `hhm-run` has started, at a Unix socket."""
 
-    def __init__(self, prefix, words, **how):
+    def __init__(self, prefix, words, error=subprocess.PIPE, **how):
         self.path = os.path.join(server.FOLDER, "socket")
         words = [f"{prefix}/bin/hhm-run", f"--unix={self.path}", *SMALL, *words]
-        self.process = subprocess.Popen(words, stdout=subprocess.PIPE, stderr=subprocess.PIPE, text=True,
+        self.process = subprocess.Popen(words, stdout=subprocess.PIPE, stderr=error, text=True,
                                         start_new_session=True, preexec_fn=heed_signals, **how)
 
     def __enter__(self):
@@ -348,19 +377,49 @@ def a_second_signal_kills(prefix):
 
 
 def signals_at_once_are_one(prefix):
-    """A terminal that is closed hangs up twice, and a session that ends terminates and hangs up: nothing is killed."""
+    """A terminal that is closed hangs up twice, and a session that ends terminates and hangs up: nothing is killed.
+    All of the group may get each signal, and then what asks the server gets it too, and goes on."""
     path = os.path.join(server.FOLDER, "once.snap")
     for several in [(signal.SIGHUP, signal.SIGHUP), (signal.SIGTERM, signal.SIGHUP), (signal.SIGINT,) * 3]:
-        with Served(prefix, ["--snapshot", path]).listens() as at:
-            with at.link() as link:
-                at.puts(link, 7, 5, 0, 5)
-                for number in several:
-                    at.process.send_signal(number)
-                    time.sleep(0.1)
-                check(f"{several}: a session holds the end", at.process.poll(), None)
-            at.ends(f"{several}", "stopped batches 1 total 5\n", ENDS, 0)
-        check(f"{several}: the snapshot", in_snap(path), saved(5))
-        os.remove(path)
+        for kill in [os.kill, os.killpg]:
+            name = f"{several} by {kill.__name__}"
+            with Served(prefix, ["--snapshot", path]).listens() as at:
+                with at.link() as link:
+                    at.puts(link, 7, 5, 0, 5)
+                    for number in several:
+                        kill(at.process.pid, number)
+                        time.sleep(0.1)
+                    check(f"{name}: a session holds the end", at.process.poll(), None)
+                at.ends(name, "stopped batches 1 total 5\n", ENDS, 0)
+            check(f"{name}: the snapshot", in_snap(path), saved(5))
+            os.remove(path)
+
+
+def nobody_reads_what_it_says(prefix):
+    """A full pipe as standard error, which nobody reads, keeps neither a Stop nor a kill from the server."""
+    reading, writing = os.pipe()
+    os.set_blocking(writing, False)
+    try:
+        while True:
+            os.write(writing, bytes(4096))
+    except BlockingIOError:
+        os.set_blocking(writing, True)
+    for kills, wanted, status in [(False, "stopped batches 1 total 5\n", 0), (True, "", 128 + signal.SIGKILL)]:
+        with Served(prefix, [], error=writing).listens() as at, at.link() as link:
+            at.puts(link, 7, 5, 0, 5)
+            at.process.terminate()
+            ends = time.monotonic() + 3 * WAIT
+            if not kills:
+                link.close()
+            while at.process.poll() is None and time.monotonic() < ends:
+                time.sleep(1.5)
+                if kills:
+                    at.process.terminate()
+            check(f"unread lines: it ends, {kills}", at.process.poll(), status)
+            if at.process.poll() is not None:
+                check(f"unread lines: what it wrote, {kills}", at.process.stdout.read(), wanted)
+    os.close(writing)
+    os.close(reading)
 
 
 def waits_for(is_so):
@@ -458,6 +517,22 @@ def a_refused_stop_is_asked_for_again(prefix):
         check("a refused stop: status", process.returncode, 0)
 
 
+def a_python_that_fails_is_said(prefix):
+    """Without python3 nobody asks the server to stop, which is said; it goes on, and a further signal kills it."""
+    said = "hhm-run: python3 failed, so the server wasn't asked to stop; a further signal kills it\n"
+    with tempfile.TemporaryDirectory() as folder:
+        os.mkdir(f"{folder}/bin")
+        program_of(folder, "python3", "exit 1")
+        found = {**os.environ, "PATH": f"{folder}/bin:{os.environ['PATH']}"}
+        with Served(prefix, [], env=found).listens() as at, at.link() as link:
+            at.is_told_to_end()
+            check("no python3: what it says", at.process.stderr.readline(), said)
+            at.puts(link, 7, 5, 0, 5)
+            time.sleep(1.1)
+            at.process.terminate()
+            at.ends("no python3: a further signal", "", KILLED, 128 + signal.SIGKILL)
+
+
 def a_limit_of_a_file_refuses_puts(prefix):
     """A limit of a file's size (ulimit -f) refuses puts by LogFull, and doesn't end the server."""
     log = os.path.join(server.FOLDER, "limited.hhmlog")
@@ -551,6 +626,7 @@ def main():
         it_installs_again(prefix)
         bad_words_install_nothing()
         only_what_was_built_is_installed()
+        a_long_build_says_how_far_it_is()
         the_page_has_all_options(prefix)
         the_unit_is_right(os.path.join(server.FOLDER, "plain"))
         the_c_client_is_whole(prefix)
@@ -559,10 +635,12 @@ def main():
         the_umask_decides_who_connects(prefix)
         a_second_signal_kills(prefix)
         signals_at_once_are_one(prefix)
+        nobody_reads_what_it_says(prefix)
         a_worker_that_is_held_holds_the_save(prefix)
         a_refused_save_is_told(prefix)
         a_server_that_loads_is_ended_too(prefix)
         a_refused_stop_is_asked_for_again(prefix)
+        a_python_that_fails_is_said(prefix)
         a_limit_of_a_file_refuses_puts(prefix)
         a_log_of_an_earlier_installation_goes_on(prefix)
         statuses_are_those_of_the_program(prefix)

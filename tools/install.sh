@@ -90,10 +90,19 @@ end_step() {
     echo "Step $step took $((SECONDS - begun)) s."
 }
 
-# Runs a command that takes long, and prints once a minute that it goes on and the last line of its log.
+# Prints once a minute that a build goes on, or the last line of its log.
+tick() {
+    local line
+    while sleep 60 >/dev/null 2>&1; do
+        line=$(tail -n 1 "$made/log" | cut -c 1-100)
+        echo "  $((SECONDS - begun)) s: ${line:-the build goes on}"
+    done
+}
+
+# Runs a command that takes long.
 run_long() {
     local ticker status=0
-    while sleep 60 >/dev/null 2>&1; do echo "  $((SECONDS - begun)) s: $(tail -n 1 "$made/log" | cut -c 1-100)"; done &
+    tick &
     ticker=$!
     "$@" >/dev/null 2>"$made/log" || status=$?
     kill "$ticker" 2>/dev/null

@@ -31,6 +31,7 @@ from collections import Counter, deque
 
 sys.path.insert(0, os.path.dirname(os.path.abspath(__file__)))
 from hhm_client import BookWentBack, Client, Refused, address, number
+from hhm_command import Once
 
 LINES = 10_000
 # Of how many addresses the numbers are kept.
@@ -179,8 +180,8 @@ class Feed:
 def main():
     words = argparse.ArgumentParser(description="Feeds a log of connections into a server of hhm.")
     where = words.add_mutually_exclusive_group(required=True)
-    where.add_argument("--tcp", type=address, metavar="HOST:PORT")
-    where.add_argument("--unix", metavar="PATH")
+    where.add_argument("--tcp", type=address, action=Once, metavar="HOST:PORT")
+    where.add_argument("--unix", action=Once, metavar="PATH")
     words.add_argument("--client", type=number, required=True, help="this log's number, of no other log")
     until = words.add_mutually_exclusive_group()
     until.add_argument("--follow", action="store_true", help="waits for more lines until SIGINT or SIGTERM")

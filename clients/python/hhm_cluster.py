@@ -398,14 +398,15 @@ class Cluster(Several):
     (`--max-batches`), and `reserve` how many places of each book are left for batches that must be put again: at least
     as many as all clients together have on the way or keep. A new batch behind them is a `Full`.
 
-    `keep`, `timeout`, `attempts` and `pause` are those of each server's `Client`: with `keep=BYTES` the parts that no
-    save has are kept, and are put again over each new connection, as servers without a log need it.
+    `keep`, `timeout`, `attempts`, `pause` and `wait` are those of each server's `Client`: with `keep=BYTES` the parts
+    that no save has are kept, and are put again over each new connection, as servers without a log need it.
     """
 
     def __init__(
         self, servers: Sequence[Place], *, client: int, generation: int, by: str = "source",
         size: Optional[Tuple[int, int]] = None, max_batches: int = 1_000_000, reserve: int = 10_000,
         keep: Optional[int] = None, timeout: Optional[float] = 60, attempts: int = 14, pause: float = 0.05,
+        wait: Optional[float] = None,
     ):
         if by not in WAYS:
             raise ValueError(f"{by!r} is none of {WAYS}")
@@ -419,7 +420,7 @@ class Cluster(Several):
         if not 0 <= reserve < max_batches:
             raise ValueError("reserve is a number below max_batches")
         self.client, self.by, self.size, self.most = client, by, size, max_batches - reserve
-        how = {"client": client, "keep": keep, "timeout": timeout, "attempts": attempts, "pause": pause}
+        how = {"client": client, "keep": keep, "timeout": timeout, "attempts": attempts, "pause": pause, "wait": wait}
         super().__init__([
             Part(server, place, marker_of(generation, by, len(servers), place), **how)
             for place, server in enumerate(servers)

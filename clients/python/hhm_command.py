@@ -48,6 +48,17 @@ class Once(argparse.Action):
         setattr(given, self.dest, value)
 
 
+class Parser(argparse.ArgumentParser):
+    """Words whose help is written as an answer is, also where its reader has gone."""
+
+    def print_help(self, file: Any = None) -> None:
+        # (a text in the place of standard output, which a program may set, has no bytes)
+        if file is None and hasattr(sys.stdout, "buffer"):
+            show(self.format_help().encode())
+        else:
+            super().print_help(file)
+
+
 class Version(argparse.Action):
     """Prints what the package says of its proof, and whether the program in use has its sum."""
 
@@ -59,13 +70,13 @@ class Version(argparse.Action):
             text, status = hhm_version.version()
         except OSError as fault:
             words.exit(4, f"failed: {fault.filename}: {fault.strerror}\n")
-        print(text)
+        show(f"{text}\n".encode())
         words.exit(status)
 
 
 def parser() -> argparse.ArgumentParser:
     about = "Asks a server of hhm. Rows and columns count from 0."
-    words = argparse.ArgumentParser(prog="hhmc", description=about)
+    words = Parser(prog="hhmc", description=about)
     version = "prints the package's file BUILD: version and proof, and whether the program hhm in use has its sum"
     words.add_argument("--version", action=Version, dest=argparse.SUPPRESS, help=version)
     where = words.add_mutually_exclusive_group()

@@ -42,8 +42,8 @@ class Mirror(Several):
 
     `one` and `other` are their addresses, as a `Cluster` has them. With `alone`, puts go on at one server where the
     other can't be reached: that one's place, 0 or 1, is then in `away`, and it isn't asked any more before `back`,
-    which is to be called once it was brought up. `client`, `keep`, `timeout`, `attempts` and `pause` are those of a
-    `Client`.
+    which is to be called once it was brought up. `client`, `keep`, `timeout`, `attempts`, `pause` and `wait` are those
+    of a `Client`.
     """
 
     def __init__(self, one: Place, other: Place, *, client: int, alone: bool = False, **how: Any):
