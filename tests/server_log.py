@@ -16,6 +16,7 @@ import socket
 import struct
 import subprocess
 import sys
+import time
 import traceback
 
 import log_bytes
@@ -586,6 +587,24 @@ def a_log_that_is_taken_away_is_missed():
         check(f"{name}: a start", started("--log", path, "--snapshot", snaps), stopped(3, 10))
 
 
+def a_log_is_missed_between_whole_looks():
+    """The file is taken away where the last look was of its folder alone: the next put is refused all the same."""
+    for way in (moved, os.remove, copied_over, emptied_behind_a_copy, cut_by_a_byte, folder_moved):
+        name = f"taken away later: {way.__name__}"
+        folder = in_folder(name)
+        os.mkdir(folder)
+        path = os.path.join(folder, "log")
+        with Server([*SMALL, "--log", path], tcp=False) as at:
+            with at.link() as link:
+                check(f"{name}: put", asked(link, put_of(FIVE), 21), accepted(0, 5))
+                time.sleep(0.2)
+                check(f"{name}: a whole look", asked(link, put_of(THREE), 21), accepted(1, 8))
+                check(f"{name}: a short one", asked(link, put_of(TWO), 21), accepted(2, 10))
+                way(path)
+                check(f"{name}: the next one", asked(link, put_of((9, 2, [(0, 0, 1)])), 15), refused(35))
+            kill(at)
+
+
 def a_client_that_goes_leaves_nothing_unwritten():
     """A client that sends many puts and is gone before a reply: what was accepted is in the log at the end, all of it."""
     words = ["--rows", "3", "--cols", "3", "--shards", "2"]
@@ -817,6 +836,7 @@ def all_are_tried():
         a_second_server_is_told,
         a_log_has_one_server_under_all_its_names,
         a_log_that_is_taken_away_is_missed,
+        a_log_is_missed_between_whole_looks,
         a_client_that_goes_leaves_nothing_unwritten,
         what_is_no_file_is_told,
         links_are_followed_once,

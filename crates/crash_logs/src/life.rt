@@ -122,7 +122,7 @@ fn start_stored<'a>(
         Err(fault) if is_of_a_call(fault) && is_met(world) => return Ok(None),
         Err(fault) => return Err(Stop::Refused(fault)),
     };
-    match StoredLog::new(plan.alloc, log, &list) {
+    match StoredLog::of_start(plan.alloc, log, &list) {
         Ok(log) => Ok(Some((log, list))),
         Err(_) => Err(Stop::Memory),
     }

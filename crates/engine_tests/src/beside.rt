@@ -1,6 +1,6 @@
 //! Two threads put, a third reads, and a fourth compacts or folds meanwhile. Each putter finds its own puts at once,
 //! what the reader finds never grows less, and at last the engine holds the sum of all.
-ghost use Rattle.std.specs.Prelude.{◌<◌};
+ghost use Rattle.std.specs.Prelude.{◌≡◌, ◌<◌, None};
 
 use crate::cases::{Act, Case, NOTHING, play};
 use crate::folding::folder_of;
@@ -101,14 +101,18 @@ pub fn put_beside<
     N: Named + Send + Sync,
     H: Ledger + Send + Sync,
     R: Threads + Wait + Abort + Eprint + Sync,
->(rt: &R, alloc: Global, engine: &Engine<N, H>, seats: &mut [Seat<N, H>], work: Work) {
+>(rt: &R, alloc: Global, engine: &Engine<N, H>, seats: &mut [Seat<N, H>], work: Work)
+    requires { N.log ≡ None }
+{
     let (first, second, third) = three_seats(rt, seats);
     let ended = AtomicU64::new(0);
     let mut folder = folder_of(rt, alloc, engine);
     let (found, fits) = thread::join(
         rt,
         || put_from_both(rt, alloc, engine, first, second, &ended),
-        || work_and_watch(rt, alloc, engine, third, &mut folder, work, &ended),
+        ||
+            requires { N.log ≡ None }
+        { work_and_watch(rt, alloc, engine, third, &mut folder, work, &ended) },
     );
     assert!(rt; same(rt, &(found, fits), &((true, true), (true, true))));
     if let Work::Fold = work {
@@ -212,14 +216,20 @@ fn work_and_watch<
     folder: &mut Folder,
     work: Work,
     ended: &AtomicU64,
-) -> (bool, bool) {
+) -> (bool, bool)
+    requires { N.log ≡ None }
+{
     thread::join(
         rt,
-        || match work {
-            Work::Nothing => true,
-            Work::Compact => compact_until(rt, alloc, engine, ended, (0, usize::MAX)),
-            Work::CompactByDepth => compact_from_both(rt, alloc, engine, ended),
-            Work::Fold => fold_until(rt, alloc, engine, folder, ended),
+        ||
+            requires { N.log ≡ None }
+        {
+            match work {
+                Work::Nothing => true,
+                Work::Compact => compact_until(rt, alloc, engine, ended, (0, usize::MAX)),
+                Work::CompactByDepth => compact_from_both(rt, alloc, engine, ended),
+                Work::Fold => fold_until(rt, alloc, engine, folder, ended),
+            }
         },
         || watch(rt, engine, seat, ended),
     )
@@ -276,7 +286,9 @@ fn fold_until<N: Named, H: Ledger, R: Wait>(
     engine: &Engine<N, H>,
     folder: &mut Folder,
     ended: &AtomicU64,
-) -> bool {
+) -> bool
+    requires { N.log ≡ None }
+{
     for _ in 0..10_000_000 {
         if engine.fold(rt, alloc, folder).is_err() {
             return false;

@@ -1,5 +1,6 @@
 //! A case: what is done from the seats of an engine of several threads, and what the engine closes to.
-ghost use Rattle.std.specs.Prelude.{◌≡◌};
+ghost use Rattle.std.specs.Prelude.{◌≡◌, List, None};
+ghost use Rattle.batch_store.specs.declared.verdict.Entry.{Entry};
 ghost use Rattle.batch_store.specs.Accepted.{entries_in};
 ghost use Rattle.locked_engine.specs.Opened.{NamesEngine};
 
@@ -116,6 +117,8 @@ fn closed_after<
     requires named { NamesEngine names N.setup N.seats N.history N.name N.parts H.name H.parts }
     requires made_from { plain.setup ≡ names.setup }
     requires opened { plain.book.state ≡ N.opened }
+    requires unlogged { N.log ≡ None }
+    requires word { (entries : List Entry) → N.synced entries }
 {
     let (engine, mut seats) = opened::<N, H>(rt, alloc, plain, names);
     perform(rt, alloc, &engine, &mut seats, case);
@@ -130,7 +133,10 @@ fn perform<
     N: Named + Send + Sync,
     H: Ledger + Send + Sync,
     R: Threads + Wait + Clock + Abort + Eprint + Sync,
->(rt: &R, alloc: Global, engine: &Engine<N, H>, seats: &mut [Seat<N, H>], case: &Case) {
+>(rt: &R, alloc: Global, engine: &Engine<N, H>, seats: &mut [Seat<N, H>], case: &Case)
+    requires unlogged { N.log ≡ None }
+    requires word { (entries : List Entry) → N.synced entries }
+{
     match case.act {
         Act::Put(steps) => puts::put_steps(rt, alloc, engine, seats, steps, case.accepted),
         Act::PutAfterFolded => queues::put_after_folded(rt, alloc, engine, seats),

@@ -1,4 +1,5 @@
 //! A fold of an engine that runs, in steps with puts between them.
+ghost use Rattle.std.specs.Prelude.{◌≡◌, None};
 
 use crate::cases::{Act, Case, Listed, NOTHING, play};
 use crate::expected::{expect_counts, expect_list};
@@ -100,7 +101,9 @@ pub fn fold_in_steps<N: Named, H: Ledger, R: Wait + Abort + Eprint>(
     alloc: Global,
     engine: &Engine<N, H>,
     seats: &mut [Seat<N, H>],
-) {
+)
+    requires { N.log ≡ None }
+{
     let (first, second) = two_seats(rt, seats);
     let mut folder = folder_of(rt, alloc, engine);
     // There is nothing to fold yet.

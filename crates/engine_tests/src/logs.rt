@@ -1,5 +1,7 @@
 //! Threads that put batches into an engine over a log in memory, and share its syncs: a put is durable once it is
 //! answered. Syncs and rooms that fail, logs that are full, and a fresh log after a failed one.
+ghost use Rattle.std.specs.Prelude.{List};
+ghost use Rattle.batch_store.specs.declared.verdict.Entry.{Entry};
 
 mod failures;
 mod groups;
@@ -77,7 +79,9 @@ pub fn play<
     N: Named + Send + Sync,
     H: Ledger + Send + Sync,
     R: Threads + Wait + Clock + Abort + Eprint + Sync,
->(rt: &R, alloc: Global, engine: &Engine<N, H>, seats: &mut [Seat<N, H>], story: Story) {
+>(rt: &R, alloc: Global, engine: &Engine<N, H>, seats: &mut [Seat<N, H>], story: Story)
+    requires { (entries : List Entry) → N.synced entries }
+{
     match story {
         Story::Share => groups::share_a_sync(rt, alloc, engine, seats),
         Story::PutMany => groups::put_many(rt, alloc, engine, seats),

@@ -1,7 +1,8 @@
 //! Folding what was accepted while other threads put: it is sealed at one moment, added up without a lock, and settled
 //! by an exchange of pointers.
 ghost use Rattle.std.specs.Prelude.{◌≡◌, ◌↔◌, ◌+◌, ◌≤◌, ◌<◌, None, Ok, IfOk, IfSome, OnOk, OnErr, IsSome, IsTrue, false, true, length};
-ghost use Rattle.std.specs.Prelude.{vec_len, vec_capacity};
+ghost use Rattle.std.specs.Prelude.{ℕ, List, Some, is_some, vec_len, vec_capacity};
+ghost use Rattle.batch_store.specs.declared.verdict.Entry.{Entry};
 ghost use Rattle.locked_engine.specs.Folders.{nothing_sealed, IsMade};
 
 use crate::engine::Engine;
@@ -58,7 +59,8 @@ impl<N: Named, H: Ledger> Engine<N, H> {
     /// export or status changes by it, and no seat.
     ///
     /// It is `begin_fold`, `Folder::run` and `settle_fold` one after the other, and goes on with what the folder had
-    /// sealed before, if it had. Whoever keeps a log calls these three, and settles once the log has what was sealed.
+    /// sealed before, if it had. It is for engines without a log: whoever keeps one calls these three, and settles once
+    /// the log has what was sealed.
     ///
     /// # Errors
     ///
@@ -69,6 +71,7 @@ impl<N: Named, H: Ledger> Engine<N, H> {
         alloc: Global,
         folder: &mut Folder,
     ) -> Result<bool, AllocError>
+        requires unlogged { N.log ≡ None }
         ensures ok { OnOk result (folder.new ≡ nothing_sealed) }
         ensures nothing { result ≡ Ok false → folder.old.place ≡ None }
         ensures err { OnErr result (IsSome folder.old.place → folder.new.place ≡ folder.old.place) }
@@ -107,7 +110,8 @@ impl<N: Named, H: Ledger> Engine<N, H> {
             return Ok(Some(place));
         }
         let mut shards = Vec::with_capacity(alloc, self.setup.shards() as usize)?;
-        let Some(SealedBook { place, fold }) = self.seal_from(rt, alloc, &mut shards, 0)? else {
+        let Some(SealedBook { place, fold }) = self.seal_from(rt, alloc, folder, &mut shards, 0)?
+        else {
             return Ok(None);
         };
         folder.take_in(place, shards, fold);
@@ -117,8 +121,10 @@ impl<N: Named, H: Ledger> Engine<N, H> {
     /// Puts what was made in place of what it was made of, where the folder has sealed something and all sums are made
     /// (`Folder::is_made`); else nothing is done. Each lock is taken once more, one after the other, and pointers are
     /// exchanged under it, which takes no memory and can't be refused. What is let go of is freed when no lock is held.
-    /// Puts and readers go on meanwhile, and are answered as before.
+    /// Puts and readers go on meanwhile, and are answered as before. With a log all that was sealed is durable before.
     pub fn settle_fold<R: Wait>(&self, rt: &R, alloc: Global, folder: &mut Folder) -> bool
+        requires durable { is_some N.log ≡ true → (place : ℕ) → folder.old.place ≡ Some place →
+            (entries : List Entry) × N.synced entries × (place ≤ length entries) }
         ensures exactly { IsTrue result ↔ IsMade folder.old }
         ensures settled { result ≡ true → folder.new ≡ nothing_sealed }
         ensures kept { result ≡ false → folder.new ≡ folder.old }
@@ -127,7 +133,7 @@ impl<N: Named, H: Ledger> Engine<N, H> {
             return false;
         }
         'shards: for s in 0..self.setup.shards() {
-            let released = self.settle_shard(rt, alloc, s);
+            let released = self.settle_shard(rt, alloc, folder, s);
             drop(released);
         }
         let released = self.settle_book(rt);
@@ -142,6 +148,7 @@ impl<N: Named, H: Ledger> Engine<N, H> {
         &self,
         rt: &R,
         alloc: Global,
+        folder: &Folder,
         folds: &mut Vec<ShardFold>,
         s: u64,
     ) -> Result<Option<SealedBook>, AllocError>
@@ -155,14 +162,14 @@ impl<N: Named, H: Ledger> Engine<N, H> {
         }
         let mut guard = self.shards[s as usize].lock(rt);
         let locked = &mut *guard;
-        let begun = locked.begin_fold(alloc)?;
+        let begun = locked.begin_fold(alloc, folder)?;
         let is_sealed = begun.is_some();
         if let Some(fold) = begun {
             folds.push_reserved(fold);
         }
-        let sealed = self.seal_from(rt, alloc, folds, s + 1);
+        let sealed = self.seal_from(rt, alloc, folder, folds, s + 1);
         if is_sealed && !matches!(sealed, Ok(Some(_))) {
-            locked.unseal();
+            locked.unseal(folder);
         }
         sealed
     }
@@ -176,11 +183,17 @@ impl<N: Named, H: Ledger> Engine<N, H> {
     }
 
     // Settles shard s under its lock.
-    fn settle_shard<R: Wait>(&self, rt: &R, alloc: Global, s: u64) -> Option<ReleasedRecord>
+    fn settle_shard<R: Wait>(
+        &self,
+        rt: &R,
+        alloc: Global,
+        folder: &Folder,
+        s: u64,
+    ) -> Option<ReleasedRecord>
         requires { s < N.setup.shards }
     {
         let mut guard = self.shards[s as usize].lock(rt);
-        let released = guard.settle_fold(alloc);
+        let released = guard.settle_fold(alloc, folder);
         let _ = MutexGuard::unlock(guard);
         released
     }

@@ -1,5 +1,5 @@
 //! What an engine is named by.
-ghost use Rattle.std.specs.Prelude.{◌≡◌, ℕ, ◌+◌, ◌≤◌, ◌<◌, IfOk, ◌↔◌, [], List};
+ghost use Rattle.std.specs.Prelude.{◌≡◌, ℕ, ◌+◌, ◌≤◌, ◌<◌, IfOk, ◌↔◌, [], List, None, ⊤};
 ghost use Rattle.batch_store.specs.Setups.{Setting, setting};
 ghost use Rattle.batch_store.specs.Accepted.{unfolded, entries_in};
 ghost use Rattle.locked_engine.specs.Versions.{IsVersion, version_status};
@@ -14,14 +14,16 @@ use std::marker::{Brand, Model};
 use std::sync::ledger::{Blank, Ledger};
 
 /// Which engine it is: the first of its two ledgers, its setup and its number of seats, what had been accepted when it
-/// was opened, and the history of the entries that it accepts from then on. It has no functions: what it names exists
-/// in proofs alone.
+/// was opened, the history of the entries that it accepts from then on, and the log that makes them durable. It has no
+/// functions: what it names exists in proofs alone.
 ///
 /// Whoever opens an engine takes `Brand` for it, and for the second ledger, and tells in the call's proof which names
 /// are meant. A function over an engine takes them as type parameters.
 pub trait Named: Ledger {
+    ghost use Rattle.std.specs.Prelude.{ℕ, List, Option};
     ghost use Rattle.logbook.specs.Pages.{Book};
     ghost use Rattle.batch_store.specs.Accepted.{Accepted};
+    ghost use Rattle.batch_store.specs.declared.verdict.Entry.{Entry};
 
     ghost setup: { Setting };
 
@@ -30,6 +32,12 @@ pub trait Named: Ledger {
     ghost history: { Book };
 
     ghost opened: { Accepted };
+
+    // The path of the log that makes a batch durable before its put is answered, if there is one.
+    ghost log: { Option (List ℕ) };
+
+    // That log has answered Ok to a sync, after which these were its entries.
+    ghost synced: { List Entry → Type 0 };
 }
 
 impl Named for Brand {
@@ -40,6 +48,10 @@ impl Named for Brand {
     ghost history = { record { number = 0; log_name = 0; cells_name = 0 } };
 
     ghost opened = { unfolded [] };
+
+    ghost log = { None };
+
+    ghost synced = { λ entries. ⊤ };
 }
 
 /// The most seats.

@@ -4,9 +4,12 @@
 --     DeskStanding    that of the log as it was put back last, with what was heard of it since; how many pages are
 --                     promised; and whether the turn is there, or a thread has it. No page is counted as ready while
 --                     the log may be exchanged.
+--     IsNamed log has the log has the path under which it is to be, if there is one
+--     IsWord synced word
+--                     what logs of a type have answered to have synced, the log of the engine has
 --     IsGroup         the entries of some batches stand behind those that were durable, and of the pages that were ready
 --                     no more are gone than a block of these batches takes
-use Rattle.std.specs.Prelude.{◌≡◌, ℕ, ◌+◌, ◌≤◌, List, ◌++◌, Bool}
+use Rattle.std.specs.Prelude.{◌≡◌, ℕ, ◌+◌, ◌≤◌, List, ◌++◌, Bool, Option, Some}
 use Rattle.batch_store.specs.declared.verdict.Entry.{Entry}
 use Rattle.batch_store.specs.Batches.{Submission, entries_of}
 
@@ -25,6 +28,12 @@ pub record DeskStanding : Type 0 where
 
 abbrev pub desk_standing : Standing → ℕ → Bool → DeskStanding
 desk_standing log promised home = record { log = log; promised = promised; home = home }
+
+abbrev pub IsNamed : Option (List ℕ) → (List ℕ → Type 0) → Type 0
+IsNamed log has = (path : List ℕ) → log ≡ Some path → has path
+
+abbrev pub IsWord : (List Entry → Type 0) → (List Entry → Type 0) → Type 0
+IsWord synced word = (es : List Entry) → synced es → word es
 
 pub record IsGroup (takes : List Submission → ℕ) (old new : List Entry) (before after : ℕ) : Type 0 where
   pub list : List Submission

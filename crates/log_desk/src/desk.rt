@@ -3,6 +3,7 @@ ghost use Rattle.std.specs.Prelude.{◌≡◌, ◌≢◌, ◌<◌, true, false, 
 ghost use Rattle.std.specs.Bool.{OnTrue};
 ghost use mathlib.Core.List.{IsPrefix};
 ghost use Rattle.locked_engine.specs.Versions.{version_status};
+ghost use Rattle.log_desk.specs.Standings.{IsNamed, IsWord};
 
 use crate::durable::Durable;
 use crate::fault::DeskFault;
@@ -13,6 +14,7 @@ use crate::turn::Turn;
 use crate::work::TurnWork;
 use locked_engine::{Engine, Named, Status, Version};
 use std::alloc::{AllocError, Global};
+use std::marker::Model;
 use std::sync::ledger::Ledger;
 use std::sync::{Condvar, Mutex, MutexGuard, Wait};
 use std::thread;
@@ -21,7 +23,8 @@ use std::thread;
 /// than a sync takes.
 const MOST_YIELDS: u64 = 64;
 
-/// A log that threads share. What it tells as durable is durable in the log, and a beginning of the book's list.
+/// A log that threads share: the one that the engine names. What it tells as durable is durable in the log, and a
+/// beginning of the book's list.
 ///
 /// Contracts see nothing of what it holds, since others may change that at any time.
 ///
@@ -33,8 +36,18 @@ pub struct LogDesk<N: Named, L: Log> {
     told: Condvar,
 }
 
+impl<N: Named, L: Log> Model for LogDesk<N, L> {
+    ghost use Rattle.log_desk.specs.Standings.{IsWord};
+
+    ghost Value = { Unit {0} };
+
+    ghost view = { λ d. tt };
+
+    ghost invariant = { λ d. IsWord L.was_synced N.synced };
+}
+
 impl<N: Named, L: Log> LogDesk<N, L> {
-    /// A desk at a log whose entries are durable. `seen` is any version of the book that the log is of. It takes all
+    /// A desk at a log whose entries are durable, and that has the name by which the next start finds it. `seen` is any version of the book that the log is of. It takes all
     /// memory that groups need: 8 KiB.
     ///
     /// # Errors
@@ -48,6 +61,8 @@ impl<N: Named, L: Log> LogDesk<N, L> {
     ) -> Result<LogDesk<N, L>, AllocError>
         requires works { L.failed log ≡ false }
         requires durable { L.durable log ≡ durable }
+        requires named { IsNamed N.log (L.has_name log) }
+        requires word { IsWord L.was_synced N.synced }
     {
         let group = Group::new(alloc, seen)?;
         let turn = Turn::new(log, durable, group);
@@ -114,7 +129,8 @@ impl<N: Named, L: Log> LogDesk<N, L> {
     /// # Errors
     ///
     /// - `LogFailed`: a call on the log has failed. The place may be durable or not, and no call on it is made again.
-    /// - `HistoriesDiffer`: the book hasn't that place, or the log no room that was promised.
+    /// - `LogFull`: the log has no room, though it was promised.
+    /// - `HistoriesDiffer`: the book hasn't that place.
     pub fn wait<H: Ledger, R: Wait>(
         &self,
         rt: &R,
@@ -125,7 +141,7 @@ impl<N: Named, L: Log> LogDesk<N, L> {
         ensures later { IsPrefix known.old known.new }
         ensures ok { OnOk result (index < length known.new) }
         ensures told { result ≡ Err DeskFault.LogFailed → L.has_failed }
-        ensures promised { result ≢ Err DeskFault.LogFull }
+        ensures full { result ≡ Err DeskFault.LogFull → L.was_full }
     {
         for _ in rt.forever() {
             let mut state = self.state.lock(rt);
@@ -158,7 +174,7 @@ impl<N: Named, L: Log> LogDesk<N, L> {
     ) -> Result<(), DeskFault>
         requires works { turn.failed ≡ false }
         ensures told { result ≡ Err DeskFault.LogFailed → L.has_failed }
-        ensures promised { result ≢ Err DeskFault.LogFull }
+        ensures full { result ≡ Err DeskFault.LogFull → L.was_full }
     {
         let mut turn = turn;
         self.wait_for_followers(rt);
@@ -203,7 +219,8 @@ impl<N: Named, L: Log> LogDesk<N, L> {
 
     /// What is durable: what a session knows as it begins. It waits for the desk's lock, under which nobody writes.
     pub fn known<R: Wait>(&self, rt: &R) -> Durable<N, L>
-        ensures { L.was_synced result }
+        ensures synced { L.was_synced result }
+        ensures word { N.synced result }
     {
         let state = self.state.lock(rt);
         let known = state.durable();

@@ -21,14 +21,13 @@ pub enum RoomFault {
 /// Why a put isn't begun, or a place isn't told as durable.
 #[derive(Clone, Copy, Debug, PartialEq, Eq, Error)]
 pub enum DeskFault {
-    /// There is no room for the batch. Nothing was accepted.
+    /// There is no room for the batch. Nothing was accepted, unless its room was given back before it was written.
     #[error("no room in the log")]
     LogFull,
     /// A call on the log has failed. It stays so until a fresh log is put in its place.
     #[error("the log has failed")]
     LogFailed,
-    /// The book and the log don't belong together. Nobody meets it who was promised room and was told the place by the
-    /// book that the log is of.
+    /// The book and the log don't belong together. Nobody meets it whom the book that the log is of has told the place.
     #[error("the book and its log differ")]
     HistoriesDiffer,
 }

@@ -1,5 +1,5 @@
 //! What a leader writes at once.
-ghost use Rattle.std.specs.Prelude.{◌≡◌, ◌≢◌, ◌<◌, ◌≤◌, false, true, Err, length, IfOk, OnOk};
+ghost use Rattle.std.specs.Prelude.{◌≡◌, ◌≢◌, ℕ, ◌<◌, ◌≤◌, List, false, true, Err, length, IfOk, OnOk, OnErr};
 ghost use mathlib.Core.List.{IsPrefix};
 ghost use Rattle.log_desk.specs.Standings.{IsGroup};
 
@@ -60,8 +60,8 @@ impl<N: Named> Group<N> {
     /// # Errors
     ///
     /// - `LogFailed`: the log failed now.
-    /// - `HistoriesDiffer`: the book has nothing behind what is durable, or there is no room for it in the log. Nothing
-    ///   was written.
+    /// - `LogFull`: there is no room for it in the log. Nothing was written.
+    /// - `HistoriesDiffer`: the book has nothing after what is durable. Nothing was written.
     pub fn write<L: Log, H: Ledger, R: Wait>(
         &mut self,
         rt: &R,
@@ -75,11 +75,12 @@ impl<N: Named> Group<N> {
         ensures grows { OnOk result (length durable.old < length durable.new) }
         ensures durable { L.failed log.new ≡ false → L.durable log.new ≡ durable.new }
         ensures group { OnOk result (IsGroup L.takes durable.old durable.new (L.ready log.old) (L.ready log.new)) }
-        ensures room_kept { result ≡ Err DeskFault.HistoriesDiffer → L.ready log.old ≤ L.ready log.new }
+        ensures named { (path : List ℕ) → L.has_name log.old path → L.has_name log.new path }
+        ensures room_kept { result ≢ Err DeskFault.LogFailed → OnErr result (L.ready log.old ≤ L.ready log.new) }
         ensures works { L.failed log.new ≡ true → result ≡ Err DeskFault.LogFailed }
         ensures broken { result ≡ Err DeskFault.LogFailed → L.failed log.new ≡ true }
         ensures told { result ≡ Err DeskFault.LogFailed → L.has_failed }
-        ensures promised { result ≢ Err DeskFault.LogFull }
+        ensures full { result ≡ Err DeskFault.LogFull → L.was_full }
     {
         let Group { seen, batches } = self;
         batches.clear();

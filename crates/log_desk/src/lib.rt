@@ -27,6 +27,6 @@ pub use fault::{DeskFault, LogFailed, RoomFault};
 pub use group::Group;
 pub use log::Log;
 pub use memory::{FailAt, MemoryLog, NoPause, Pause};
+pub use room::make_stretch;
 pub use state::{DeskFigures, Ticket};
-pub use turn::Turn;
 pub use work::TurnWork;

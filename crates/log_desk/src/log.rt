@@ -25,6 +25,9 @@ pub trait Log: Drop {
     // How many pages the block of these batches takes.
     ghost takes: { List Submission → ℕ };
 
+    // It has this path, where a start finds it.
+    ghost has_name: { Self → List ℕ → Type 0 };
+
     // A log has answered Ok to a sync, behind which these were its entries.
     ghost was_synced: { List Entry → Type 0 };
 
@@ -59,6 +62,7 @@ pub trait Log: Drop {
         ensures durable { OnOk result (durable self.new ≡ durable self.old ++ entries_of (values batches.now)) }
         ensures synced { OnOk result (was_synced (durable self.new)) }
         ensures room { OnOk result (ready self.old ≤ ready self.new + takes (values batches.now)) }
+        ensures named { (path : List ℕ) → has_name self.old path → has_name self.new path }
         ensures broken { OnErr result (failed self.new ≡ true) }
         ensures told { OnErr result has_failed };
 
@@ -73,6 +77,7 @@ pub trait Log: Drop {
         ensures room { OnOk result (pages ≤ ready self.new) }
         ensures kept { failed self.new ≡ false → ready self.old ≤ ready self.new }
         ensures durable { failed self.new ≡ false → durable self.new ≡ durable self.old }
+        ensures named { (path : List ℕ) → has_name self.old path → has_name self.new path }
         ensures broken { result ≡ Err RoomFault.Failed → failed self.new ≡ true }
         ensures told { result ≡ Err RoomFault.Failed → has_failed }
         ensures full { result ≡ Err RoomFault.Full → was_full };

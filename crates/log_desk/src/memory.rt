@@ -172,6 +172,8 @@ impl<P: Pause> Log for MemoryLog<P> {
 
     ghost takes = { λ list. length list };
 
+    ghost has_name = { λ l path. ⊤ };
+
     ghost was_synced = { λ entries. ⊤ };
 
     ghost has_failed = { ⊤ };

@@ -1,8 +1,8 @@
 //! The leader's turn: the log, taken out of the lock, with what is needed to write a group.
-ghost use Rattle.std.specs.Prelude.{◌≡◌, ◌≢◌, ◌⊎◌, ◌<◌, ◌≤◌, false, true, Err, length, OnOk};
+ghost use Rattle.std.specs.Prelude.{◌≡◌, ◌≢◌, ◌⊎◌, ◌<◌, ◌≤◌, false, true, Err, length, OnOk, OnErr};
 ghost use Rattle.std.specs.Bool.{OnTrue};
 ghost use mathlib.Core.List.{IsPrefix};
-ghost use Rattle.log_desk.specs.Standings.{IsGroup, standing};
+ghost use Rattle.log_desk.specs.Standings.{IsGroup, IsNamed, standing};
 
 use crate::durable::Durable;
 use crate::fault::{DeskFault, RoomFault};
@@ -18,7 +18,8 @@ use std::sync::ledger::Ledger;
 /// With fewer pages than these, 4 MiB, the leader makes room behind its group.
 const LOW: u64 = 1024;
 
-/// The log, what is durable in it, and what is needed to write a group.
+/// The log, what is durable in it, and what is needed to write a group. A log that works has the name by which the next
+/// start finds it.
 ///
 /// Contracts see what is durable, whether a call on the log has failed, and how many pages are ready.
 #[derive(Drop)]
@@ -32,21 +33,23 @@ pub struct Turn<N: Named, L: Log> {
 
 impl<N: Named, L: Log> Model for Turn<N, L> {
     ghost use Rattle.std.specs.Prelude.{◌≡◌, true, false};
-    ghost use Rattle.log_desk.specs.Standings.{Standing, standing};
+    ghost use Rattle.log_desk.specs.Standings.{IsNamed, Standing, standing};
 
     ghost Value = { Standing };
 
     ghost view = { λ t. standing t.durable (L.failed t.log) (L.ready t.log) };
 
     ghost invariant = { λ t. (L.failed t.log ≡ false → L.durable t.log ≡ t.durable)
+        × (L.failed t.log ≡ false → IsNamed N.log (L.has_name t.log))
         × (L.failed t.log ≡ true → L.has_failed) };
 }
 
 impl<N: Named, L: Log> Turn<N, L> {
-    /// A turn at a log all of whose entries are durable.
+    /// A turn at a log that has its name, and all of whose entries are durable.
     pub fn new(log: L, durable: Durable<N, L>, group: Group<N>) -> Turn<N, L>
         requires works { L.failed log ≡ false }
         requires durable { L.durable log ≡ durable }
+        requires named { IsNamed N.log (L.has_name log) }
         ensures { result ≡ standing durable false (L.ready log) }
     {
         Turn {
@@ -109,11 +112,11 @@ impl<N: Named, L: Log> Turn<N, L> {
         ensures extends { IsPrefix self.old.durable self.new.durable }
         ensures grows { OnOk result (length self.old.durable < length self.new.durable) }
         ensures group { OnOk result (IsGroup L.takes self.old.durable self.new.durable self.old.room self.new.room) }
-        ensures room_kept { result ≡ Err DeskFault.HistoriesDiffer → self.old.room ≤ self.new.room }
+        ensures room_kept { result ≢ Err DeskFault.LogFailed → OnErr result (self.old.room ≤ self.new.room) }
         ensures works { self.new.failed ≡ true → result ≡ Err DeskFault.LogFailed }
         ensures broken { result ≡ Err DeskFault.LogFailed → self.new.failed ≡ true }
         ensures told { result ≡ Err DeskFault.LogFailed → L.has_failed }
-        ensures promised { result ≢ Err DeskFault.LogFull }
+        ensures full { result ≡ Err DeskFault.LogFull → L.was_full }
     {
         self.group
             .write(rt, engine, &mut self.log, &mut self.durable)

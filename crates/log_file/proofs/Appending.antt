@@ -3,13 +3,12 @@ use Rattle.std.proofs.Common.{◌≡◌, ℕ, ◌+◌, ◌*◌, ◌^◌, ◌<◌
 use Rattle.log_blocks.specs.Blocks.{Block}
 use Rattle.log_blocks.proofs.FilePages.{page_total, place_push, next_end}
 use Rattle.log_disk.specs.Disk.{Holds, HoldsSome, Elapses, Follows, LeavesOnly}
-use Rattle.log_file.specs.Logs.{Log, IsLog, HoldsLog, MayHoldNext, IsBeforeOrAfter, with_next, file_of}
+use Rattle.log_file.specs.Logs.{Log, IsLog, HoldsLog, MayHoldNext, with_next, file_of}
 use Rattle.log_file.specs.Runs.{Stays}
 use Rattle.log_file.specs.Writer.{CanAppend, IsLong, IsSettled, IsUnsettled}
 use Rattle.log_file.specs.declared.writer.LogWriter.{LogWriter}
-use Rattle.log_file.proofs.LogLemmas.{file_long, log_held, next_held, part_held, all_held, all_left, held_is_read}
-use Rattle.log_file.proofs.LogLemmas.{next_log}
-use Rattle.log_file.proofs.RunLemmas.{begun, stepped, kept, moments_to}
+use Rattle.log_file.proofs.LogLemmas.{file_long, log_held, next_held, part_held, all_held, all_left, next_log}
+use Rattle.log_file.proofs.RunLemmas.{begun, stepped, kept}
 
 module _ {D : Type 0} (written : D → List ℕ) (may_leave : D → List ℕ → Type 0) (moment : D → ℕ)
     (left_since : D → ℕ → List ℕ → Type 0)
@@ -59,11 +58,8 @@ module _ {D : Type 0} (written : D → List ℕ) (may_leave : D → List ℕ →
       new so_far same fewer time
 
   pub moments_of : (new : D) → Stays written may_leave moment left_since (MayHoldNext log block) old new
-      → LeavesOnly moment left_since old new (IsBeforeOrAfter log block)
-  moments_of new run =
-      let s = can.settled in
-      moments_to written may_leave moment left_since (MayHoldNext log block) (IsBeforeOrAfter log block) old new
-      (λ left held. held_is_read log block left s.is_log can.block_is held) run
+      → LeavesOnly moment left_since old new (MayHoldNext log block)
+  moments_of new run = run.moments
 
   pub unsettled_of : (new : D) → Stays written may_leave moment left_since (MayHoldNext log block) old new
       → IsUnsettled written may_leave new log block

@@ -7,12 +7,12 @@ use Rattle.std.specs.Prelude.{Result, Ok, Err, OnOk, OnErr, false, is_err}
 use Rattle.log_blocks.specs.Blocks.{Block}
 use Rattle.log_disk.specs.Disk.{Holds, HoldsSome, IsCut, MayBeCut, Elapses, Follows, LeavesOnly}
 use Rattle.log_disk.proofs.Steps.{holds_some, cut_may}
-use Rattle.log_file.specs.Logs.{Log, IsLog, HoldsLog, IsReadAs, file_of}
+use Rattle.log_file.specs.Logs.{Log, IsLog, HoldsLog, file_of}
 use Rattle.log_file.specs.Runs.{Stays}
 use Rattle.log_file.specs.Writer.{IsBehind, IsLong, IsSettled}
 use Rattle.log_file.specs.declared.writer.LogWriter.{LogWriter}
-use Rattle.log_file.proofs.LogLemmas.{file_long, zeros_held, cut_held, log_is_read}
-use Rattle.log_file.proofs.RunLemmas.{begun, stepped, kept, moments_to}
+use Rattle.log_file.proofs.LogLemmas.{file_long, zeros_held, cut_held}
+use Rattle.log_file.proofs.RunLemmas.{begun, stepped, kept}
 
 -- what a cut leaves, whatever it answers
 pub cut_either : {A E : Type 0} (len : ℕ) (x y : List ℕ) (answer : Result A E) → OnOk answer (IsCut len x y)
@@ -81,11 +81,6 @@ module _ {D : Type 0} (written : D → List ℕ) (may_leave : D → List ℕ →
           durable = run.left;
         }
 
-    pub still_read : (new : D) → Stays written may_leave moment left_since (HoldsLog log) old new
-        → LeavesOnly moment left_since old new (IsReadAs log)
-    still_read new run = moments_to written may_leave moment left_since (HoldsLog log) (IsReadAs log) old new
-        (λ left held. log_is_read log left s.is_log held) run
-
     -- a cut behind the room leaves the log
     module _ (new : D) (only_now : (left : List ℕ) → left_since old (moment old) left → may_leave old left)
         (cut : MayBeCut (4096 * (writer.page + writer.room)) (written old) (written new))
@@ -105,8 +100,8 @@ module _ {D : Type 0} (written : D → List ℕ) (may_leave : D → List ℕ →
       pub cut_settled : IsSettled written may_leave new writer log
       cut_settled = still_settled new writer refl refl refl cut_stays
 
-      pub cut_read : LeavesOnly moment left_since old new (IsReadAs log)
-      cut_read = still_read new cut_stays
+      pub cut_moments : LeavesOnly moment left_since old new (HoldsLog log)
+      cut_moments = let run = cut_stays in run.moments
 
 pub room_is_long : {D : Type 0} (written : D → List ℕ) (may_leave : D → List ℕ → Type 0) (mid new : D) (bytes : ℕ)
     → bytes ≤ length (written mid) → written new ≡ written mid

@@ -3,6 +3,16 @@ use Rattle.std.proofs.Common.{◌≡◌, ◌⊎◌, inl, inr, ⊎_elim, ℕ, ◌
 use Rattle.log_disk.specs.Disk.{Elapses, Follows, LeavesOnly}
 use Rattle.log_file.specs.Runs.{Stays}
 
+-- what has P has Q too
+pub leaves_to : {D : Type 0} (moment : D → ℕ) (left_since : D → ℕ → List ℕ → Type 0) (P Q : List ℕ → Type 0)
+    (old new : D) → ((left : List ℕ) → P left → Q left) → LeavesOnly moment left_since old new P
+    → LeavesOnly moment left_since old new Q
+leaves_to moment left_since P Q old new to leaves = record {
+  later = leaves.later;
+  each = λ l since. to l (leaves.each l since);
+  before = λ t l le since. ⊎_elim (λ past. inl past) (λ now. inr (to l now)) (leaves.before t l le since);
+}
+
 module _ {D : Type 0} (written : D → List ℕ) (may_leave : D → List ℕ → Type 0) (moment : D → ℕ)
     (left_since : D → ℕ → List ℕ → Type 0) (P : List ℕ → Type 0) where
   -- before the first call
@@ -72,10 +82,4 @@ module _ {D : Type 0} (written : D → List ℕ) (may_leave : D → List ℕ →
 
   pub moments_to : (Q : List ℕ → Type 0) (old new : D) → ((left : List ℕ) → P left → Q left)
       → Stays written may_leave moment left_since P old new → LeavesOnly moment left_since old new Q
-  moments_to Q old new to so_far =
-      let m = so_far.moments in
-      record {
-        later = m.later;
-        each = λ l since. to l (m.each l since);
-        before = λ t l le since. ⊎_elim (λ past. inl past) (λ now. inr (to l now)) (m.before t l le since);
-      }
+  moments_to Q old new to so_far = leaves_to moment left_since P Q old new to so_far.moments

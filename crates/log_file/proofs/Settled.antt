@@ -7,12 +7,12 @@ use Rattle.log_blocks.specs.Files.{IsSame, recovered}
 use Rattle.log_blocks.specs.Scanning.{last_begin}
 use Rattle.log_disk.specs.Disk.{IsCut, MayBeCut, Elapses, Follows, LeavesOnly}
 use Rattle.log_disk.proofs.Steps.{cut_may}
-use Rattle.log_file.specs.Logs.{Log, IsLog, HoldsLog, MayHoldNext, IsReadAs, IsBeforeOrAfter, with_blocks, file_of}
+use Rattle.log_file.specs.Logs.{Log, IsLog, HoldsLog, MayHoldNext, IsReadAs, with_blocks, file_of}
 use Rattle.log_file.specs.Runs.{Stays}
 use Rattle.log_file.specs.Writer.{CanSettle, IsEnd, IsSettled, IsUnsettled, Mixes}
 use Rattle.log_file.specs.declared.writer.LogWriter.{LogWriter}
 use Rattle.log_file.specs.declared.writer.LogEnd.{LogEnd}
-use Rattle.log_file.proofs.LogLemmas.{file_long, held_is_read}
+use Rattle.log_file.proofs.LogLemmas.{file_long}
 use Rattle.log_file.proofs.RunLemmas.{begun, stepped, stepped_twice, kept, moments_to}
 use Rattle.log_file.proofs.Settling.{Found, GoneFrom, blocks_found, found_of, next_cut, next_mixes, gone_cut}
 use Rattle.log_file.proofs.Settling.{gone_mixes, cut_done, gone_whole, sync_left, same_read}
@@ -106,10 +106,8 @@ module _ {D : Type 0} (written : D → List ℕ) (may_leave : D → List ℕ →
       mid new run same fewer time
 
   pub next_moments : (new : D) → Stays written may_leave moment left_since (MayHoldNext log block) old new
-      → LeavesOnly moment left_since old new (IsBeforeOrAfter log block)
-  next_moments new run =
-      moments_to written may_leave moment left_since (MayHoldNext log block) (IsBeforeOrAfter log block) old new
-      (λ left h. held_is_read log block left can.is_log can.block_is h) run
+      → LeavesOnly moment left_since old new (MayHoldNext log block)
+  next_moments new run = run.moments
 
   pub next_unsettled : (new : D) → Stays written may_leave moment left_since (MayHoldNext log block) old new
       → IsUnsettled written may_leave new log block

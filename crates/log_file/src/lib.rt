@@ -10,6 +10,6 @@ mod room;
 mod settle;
 mod writer;
 
-pub use laws::{settled_logs_are_read, torn_logs_are_read};
+pub use laws::{settled_logs_are_read, torn_crashes_are_read, torn_logs_are_read};
 pub use room::RoomFault;
 pub use writer::{LogEnd, LogMark, LogWriter};

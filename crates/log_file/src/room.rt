@@ -3,7 +3,7 @@ ghost use Rattle.std.specs.Prelude.{◌≡◌, ◌⊎◌, ℕ, ◌+◌, ◌*◌,
 ghost use Rattle.std.specs.Prelude.{OnOk, OnErr, IsErrOf, true, false};
 ghost use Rattle.log_disk.specs.Disk.{LeavesOnly};
 ghost use Rattle.log_file.specs.declared.room.RoomFault.TheVariants.{Full, Failed};
-ghost use Rattle.log_file.specs.Logs.{Log, HoldsLog, IsReadAs};
+ghost use Rattle.log_file.specs.Logs.{Log, HoldsLog};
 ghost use Rattle.log_file.specs.Runs.{Stays};
 ghost use Rattle.log_file.specs.Writer.{IsBehind, IsLong, IsSettled};
 
@@ -87,8 +87,9 @@ impl LogWriter {
         requires failures { D.failure_count disk.old + 1 < 2 ^ 64 }
         requires fits { 4096 * (self.old.page + self.old.room + pages) < 2 ^ 63 }
         ensures settled { D.telling → IsSettled D.written D.may_leave disk.new self.new log }
+        // A loss of power at any moment of the call leaves the log, which is read as it is (`settled_logs_are_read`).
         ensures any_moment { D.telling →
-            LeavesOnly D.moment D.left_since disk.old disk.new (IsReadAs log) }
+            LeavesOnly D.moment D.left_since disk.old disk.new (HoldsLog log) }
         ensures mark { (self.new.first ≡ self.old.first) × (self.new.next ≡ self.old.next)
             × (self.new.page ≡ self.old.page) }
         ensures room { OnOk result (self.new.room ≡ self.old.room + pages) }
@@ -131,8 +132,9 @@ impl LogWriter {
         requires failures { D.failure_count disk.old + 1 < 2 ^ 64 }
         requires fits { 4096 * (self.now.page + self.now.room) < 2 ^ 63 }
         ensures settled { D.telling → IsSettled D.written D.may_leave disk.new self.now log }
+        // A loss of power at any moment of the call leaves the log, which is read as it is (`settled_logs_are_read`).
         ensures any_moment { D.telling →
-            LeavesOnly D.moment D.left_since disk.old disk.new (IsReadAs log) }
+            LeavesOnly D.moment D.left_since disk.old disk.new (HoldsLog log) }
         // The file ends with the room, and has all of it.
         ensures cut { D.tells disk.old →
             OnOk result (length (D.written disk.new) ≤ 4096 * (self.now.page + self.now.room)) }

@@ -4,7 +4,7 @@ ghost use Rattle.std.specs.Prelude.{true, false};
 ghost use Rattle.log_blocks.specs.Blocks.{Block};
 ghost use Rattle.log_blocks.specs.Files.{IsSame, recovered};
 ghost use Rattle.log_disk.specs.Disk.{Elapses, Follows, LeavesOnly};
-ghost use Rattle.log_file.specs.Logs.{Log, IsReadAs, IsBeforeOrAfter, with_blocks};
+ghost use Rattle.log_file.specs.Logs.{Log, IsReadAs, MayHoldNext, with_blocks};
 ghost use Rattle.log_file.specs.Writer.{CanSettle, IsSettled, IsUnsettled, Mixes};
 
 use crate::writer::{LogEnd, LogWriter};
@@ -59,10 +59,10 @@ impl LogWriter {
             recovered known.0.first (drop 4096 (D.written disk.old)) ≡ Ok found →
             IsSettled D.written D.may_leave disk.new writer (with_blocks known.0 found)) }
 
-        // A loss of power at any moment of the call leaves the blocks that were durable, with the one behind them or
-        // without.
+        // A loss of power at any moment leaves a file that `settle` settles: the durable blocks, and any part of the
+        // next one. It is read with that one or without (`torn_crashes_are_read`).
         ensures any_moment { D.tells disk.old →
-            LeavesOnly D.moment D.left_since disk.old disk.new (IsBeforeOrAfter known.0 known.1) }
+            LeavesOnly D.moment D.left_since disk.old disk.new (MayHoldNext known.0 known.1) }
 
         // After a loss of power what is read is what is on the disk, and then each loss of power during the call leaves
         // what was read.

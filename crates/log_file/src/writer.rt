@@ -2,7 +2,7 @@
 ghost use Rattle.std.specs.Prelude.{◌≡◌, ◌⊎◌, ℕ, ◌+◌, ◌-◌, ◌*◌, ◌<◌, ◌≤◌, List, OnOk, OnErr, true, false};
 ghost use Rattle.log_blocks.specs.Blocks.{Block};
 ghost use Rattle.log_disk.specs.Disk.{LeavesOnly};
-ghost use Rattle.log_file.specs.Logs.{Log, IsReadAs, IsBeforeOrAfter, with_next};
+ghost use Rattle.log_file.specs.Logs.{Log, IsReadAs, MayHoldNext, with_next};
 ghost use Rattle.log_file.specs.Writer.{CanAppend, HasRoom, IsLong, IsSettled, IsUnsettled};
 
 use byte_io::DeviceFault;
@@ -111,9 +111,10 @@ impl LogWriter {
         ensures durable { D.telling → OnOk result ((left : List ℕ) → D.may_leave disk.new left →
             IsReadAs (with_next known.0 known.1) left) }
 
-        // A loss of power at any moment of the call leaves the blocks from before it, with the new one or without.
+        // A loss of power at any moment leaves a file that `settle` settles: the blocks from before, and any part of
+        // the new one. It is read with the new one or without (`torn_crashes_are_read`).
         ensures any_moment { D.telling →
-            LeavesOnly D.moment D.left_since disk.old disk.new (IsBeforeOrAfter known.0 known.1) }
+            LeavesOnly D.moment D.left_since disk.old disk.new (MayHoldNext known.0 known.1) }
 
         // After a failure the file is one that `settle` settles.
         ensures failed { D.telling → OnErr result (

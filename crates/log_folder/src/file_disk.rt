@@ -7,6 +7,7 @@ use byte_io::DeviceFault;
 use log_disk::LogDisk;
 use std::fs::File;
 use std::io::{self, ErrorKind};
+use std::os::fd::AsRawFd;
 use std::os::unix::fs::FileExt;
 use std::sync::Arc;
 
@@ -32,6 +33,17 @@ fn read_padded(file: &File, at: u64, buf: &mut [u8]) -> io::Result<()> {
     match file.read_exact_at(buf, at) {
         Err(error) if error.kind() == ErrorKind::UnexpectedEof => Ok(()),
         answer => answer,
+    }
+}
+
+/// What Linux's lseek counts an offset from: the end of the file.
+const SEEK_END: i32 = 2;
+
+/// How many bytes a file has. Each read and write of it names its offset, so its position serves nobody else.
+fn length_of(file: &File) -> io::Result<u64> {
+    match u64::try_from(libc::lseek(file.as_raw_fd(), 0, SEEK_END)) {
+        Ok(length) => Ok(length),
+        Err(_) => Err(io::Error::from_raw_os_error(os::errno())),
     }
 }
 
@@ -86,14 +98,18 @@ impl FileDisk {
         Ok(())
     }
 
-    /// Whether the file is still the log's: under its path, and as long as it was made.
-    fn look(&self) -> io::Result<()> {
-        if let Some(place) = &self.place {
+    /// Whether the file is still the log's: under its path, and as long as it was made. It asks for no time of the file:
+    /// whoever does has the next write note a finer one, which then costs a third of a put.
+    fn look(&mut self) -> io::Result<()>
+        ensures sound { self.new.in_doubt ≡ self.old.in_doubt }
+        ensures failures { self.new.failures ≡ self.old.failures }
+    {
+        if let Some(place) = &mut self.place {
             if !place.is_kept() {
                 return Err(io::Error::from(ErrorKind::NotFound));
             }
         }
-        if self.file.metadata()?.len() < self.length {
+        if length_of(&self.file)? < self.length {
             return Err(io::Error::from(ErrorKind::UnexpectedEof));
         }
         Ok(())

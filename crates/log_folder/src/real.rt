@@ -86,9 +86,9 @@ fn open_locked<R: Files<File = File>>(rt: &R, path: &str) -> io::Result<File> {
     Err(io::Error::from(ErrorKind::WouldBlock))
 }
 
-/// The path under which an open file is to stay.
-fn place_of(alloc: Global, file: &File) -> io::Result<Option<Place>> {
-    match Place::of(alloc, file) {
+/// The path under which an open file of a folder is to stay.
+fn place_of(alloc: Global, file: &File, folder: &File) -> io::Result<Option<Place>> {
+    match Place::of(alloc, file, folder.try_clone()?) {
         Ok(place) => Ok(place),
         Err(_) => Err(io::Error::from(ErrorKind::OutOfMemory)),
     }
@@ -100,6 +100,7 @@ fn open_log<R: Files<File = File>>(
     rt: &R,
     alloc: Global,
     path: &str,
+    folder: &File,
 ) -> io::Result<Option<(FileDisk, u64)>>
     ensures { IfOk result (λ found. IfSome found (λ f. (f.0.in_doubt ≡ false) × (f.0.failures ≡ 0))) }
 {
@@ -110,7 +111,7 @@ fn open_log<R: Files<File = File>>(
         Err(error) => return Err(error),
     }
     let file = open_locked(rt, path)?;
-    let place = place_of(alloc, &file)?;
+    let place = place_of(alloc, &file, folder)?;
     let length = file.metadata()?.len();
     let to_read = bytes_to_read(&file, length);
     Ok(Some((FileDisk::new(file, length, place), to_read)))
@@ -122,6 +123,7 @@ fn make_beside<R: Files<File = File>>(
     alloc: Global,
     path: &str,
     name: &str,
+    folder: &File,
 ) -> io::Result<FileDisk>
     ensures { IfOk result (λ disk. (disk.in_doubt ≡ false) × (disk.failures ≡ 0)) }
 {
@@ -132,7 +134,7 @@ fn make_beside<R: Files<File = File>>(
     if is_locked(&file) {
         return Err(io::Error::from(ErrorKind::WouldBlock));
     }
-    let place = place_of(alloc, &file)?;
+    let place = place_of(alloc, &file, folder)?;
     Ok(FileDisk::new(file, 0, place))
 }
 
@@ -288,7 +290,7 @@ impl<'a, R: Files<File = File>> LogFolder for FileLogFolder<'a, R> {
     ghost files_tell = { λ folder. (λ told. told, λ told. told) };
 
     fn find(&mut self) -> Result<Option<FoundFile<FileDisk>>, DeviceFault> {
-        match open_log(self.rt, self.alloc, self.path) {
+        match open_log(self.rt, self.alloc, self.path, &self.folder) {
             Ok(Some((disk, length))) => {
                 let file = self.number(disk);
                 Ok(Some(FoundFile { file, length }))
@@ -301,7 +303,13 @@ impl<'a, R: Files<File = File>> LogFolder for FileLogFolder<'a, R> {
     /// Removes what stands under the new file's name, a folder excepted, and makes the file anew. What is neither a
     /// file nor a folder under the log's name isn't replaced.
     fn make_new(&mut self) -> Result<NumberedFile<FileDisk>, DeviceFault> {
-        match make_beside(self.rt, self.alloc, self.path, self.new_name.as_str()) {
+        match make_beside(
+            self.rt,
+            self.alloc,
+            self.path,
+            self.new_name.as_str(),
+            &self.folder,
+        ) {
             Ok(disk) => {
                 self.has_made = true;
                 Ok(self.number(disk))

@@ -2,5 +2,6 @@ mod Blocks
 mod Listed
 mod Reading
 mod Refusals
+mod Restarts
 mod Settles
 mod Summed

@@ -4,6 +4,7 @@ use Rattle.std.proofs.Common.{◌∙◌, ap, subst, arith}
 use Rattle.std.specs.Prelude.{Result, Ok, Err, OnOk, IfOk, IfErr, Option, Some, None, IfSome, IfNone}
 use Rattle.std.proofs.lemmas.List.{ext_get_or}
 use Rattle.byte_io.specs.Streams.{Answer, Calls, bytes_of_calls}
+use Rattle.log_disk.specs.declared.disk.LogDisk.{Ghosts as Device}
 use Rattle.log_source.specs.Sources.{GivesFrom, IsUntouched}
 use Rattle.log_source.proofs.RunLemmas.{read_next, read_bytes}
 use Rattle.log_start.specs.Found.{IsAsBefore}
@@ -38,16 +39,14 @@ if_none_at {T} P o is h = subst (λ (p : Option T). IfNone p P) is h
 
 -- what one read does, of a source whose state has these parts
 abbrev pub IsStep : {S D N : Type 0} → (S → Answer → S → Type 0) → (S → N) → (S → D) → (S → ℕ) → (S → ℕ)
-    → (D → Type 0) → (D → List ℕ) → (D → List ℕ → Type 0) → (D → ℕ) → (D → ℕ → List ℕ → Type 0) → Type 0
-IsStep {S} gives name disk at end tells written may_leave moment left_since =
+    → Device D → Type 0
+IsStep {S} gives name disk at end d =
     (s : S) (answer : Answer) (t : S) → gives s answer t → (name t ≡ name s) × (end t ≡ end s)
-    × (tells (disk s) → IsUntouched tells written may_leave moment left_since (disk s) (disk t)
-    × GivesFrom (written (disk s)) (at s) answer (at t))
+    × (d.tells (disk s) → IsUntouched d.tells d.written d.may_leave d.moment d.left_since (disk s) (disk t)
+    × GivesFrom (d.written (disk s)) (at s) answer (at t))
 
 module _ {S D N : Type 0} (gives : S → Answer → S → Type 0) (name : S → N) (disk : S → D) (at end : S → ℕ)
-    (tells : D → Type 0) (written : D → List ℕ) (may_leave : D → List ℕ → Type 0) (moment : D → ℕ)
-    (left_since : D → ℕ → List ℕ → Type 0)
-    (step : IsStep gives name disk at end tells written may_leave moment left_since) where
+    (d : Device D) (step : IsStep gives name disk at end d) where
   name_of : (answers : List Answer) (s t : S) → Calls gives s answers t → name t ≡ name s
   name_of [] s t same = ap name (sym same)
   name_of (answer ∷ answers) s t calls =
@@ -58,10 +57,10 @@ module _ {S D N : Type 0} (gives : S → Answer → S → Type 0) (name : S → 
   end_of (answer ∷ answers) s t calls =
       end_of answers calls.0 t calls.2 ∙ (step s answer calls.0 calls.1).1
 
-  kept_of : (answers : List Answer) (s t : S) → tells (disk s) → Calls gives s answers t →
-      IsAsBefore tells written may_leave moment left_since (disk s) (disk t)
+  kept_of : (answers : List Answer) (s t : S) → d.tells (disk s) → Calls gives s answers t →
+      IsAsBefore d (disk s) (disk t)
   kept_of [] s t told same =
-      subst (λ (u : S). IsAsBefore tells written may_leave moment left_since (disk s) (disk u)) same (record {
+      subst (λ (u : S). IsAsBefore d (disk s) (disk u)) same (record {
         told = told;
         same = refl;
         fewer = λ left may. may;
@@ -92,10 +91,10 @@ module _ {S D N : Type 0} (gives : S → Answer → S → Type 0) (name : S → 
       }
 
   abbrev Known : S → S → Type 0
-  Known s u = tells (disk u) × (written (disk u) ≡ written (disk s))
+  Known s u = d.tells (disk u) × (d.written (disk u) ≡ d.written (disk s))
 
   known_step : (s u : S) (answer : Answer) (v : S) → Known s u → gives u answer v →
-      Known s v × GivesFrom (written (disk s)) (at u) answer (at v)
+      Known s v × GivesFrom (d.written (disk s)) (at u) answer (at v)
   known_step s u answer v k g =
       let here = (step u answer v g).2 k.0 in (
         (here.0.told, here.0.same ∙ k.1),
@@ -105,35 +104,33 @@ module _ {S D N : Type 0} (gives : S → Answer → S → Type 0) (name : S → 
 -- a run, of which the calls say the rest
 module _ {S : Type 0} {gives : S → Answer → S → Type 0} {s t : S} (answers : List Answer)
     (calls : Calls gives s answers t) {D N : Type 0} (name : S → N) (disk : S → D) (at end : S → ℕ)
-    (tells : D → Type 0) (written : D → List ℕ) (may_leave : D → List ℕ → Type 0) (moment : D → ℕ)
-    (left_since : D → ℕ → List ℕ → Type 0)
-    (step : IsStep gives name disk at end tells written may_leave moment left_since) where
+    (d : Device D) (step : IsStep gives name disk at end d) where
   pub same_name : name t ≡ name s
-  same_name = name_of gives name disk at end tells written may_leave moment left_since step answers s t calls
+  same_name = name_of gives name disk at end d step answers s t calls
 
-  pub as_before : tells (disk s) → IsAsBefore tells written may_leave moment left_since (disk s) (disk t)
-  as_before told = kept_of gives name disk at end tells written may_leave moment left_since step answers s t told calls
+  pub as_before : d.tells (disk s) → IsAsBefore d (disk s) (disk t)
+  as_before told = kept_of gives name disk at end d step answers s t told calls
 
-  module _ (told : tells (disk s)) (begins : at s ≡ 0) where
+  module _ (told : d.tells (disk s)) (begins : at s ≡ 0) where
     -- how many bytes came
     pub read_so_far : at t ≡ length (bytes_of_calls answers)
     read_so_far =
-        let next = read_next gives at (Known gives name disk at end tells written may_leave moment left_since step s)
-        (written (disk s)) (known_step gives name disk at end tells written may_leave moment left_since step s)
+        let next = read_next gives at (Known gives name disk at end d step s)
+        (d.written (disk s)) (known_step gives name disk at end d step s)
         answers s t (told, refl) calls in
         omega (arith, begins, next)
 
     -- at the end it was all of the file
-    pub read_whole : at t ≡ end t → end s ≡ length (written (disk s)) → bytes_of_calls answers ≡ written (disk s)
+    pub read_whole : at t ≡ end t → end s ≡ length (d.written (disk s)) → bytes_of_calls answers ≡ d.written (disk s)
     read_whole ended long =
-        let ends = end_of gives name disk at end tells written may_leave moment left_since step answers s t calls in
-        ext_get_or 0 (bytes_of_calls answers) (written (disk s)) (omega (arith, read_so_far, ended, long, ends))
-        (λ j lt. read_bytes gives at (Known gives name disk at end tells written may_leave moment left_since step s)
-        (written (disk s)) (known_step gives name disk at end tells written may_leave moment left_since step s)
+        let ends = end_of gives name disk at end d step answers s t calls in
+        ext_get_or 0 (bytes_of_calls answers) (d.written (disk s)) (omega (arith, read_so_far, ended, long, ends))
+        (λ j lt. read_bytes gives at (Known gives name disk at end d step s)
+        (d.written (disk s)) (known_step gives name disk at end d step s)
         answers s t (told, refl) calls j lt
-        ∙ ap (λ (i : ℕ). get_or (written (disk s)) i 0) (omega (arith, begins)))
+        ∙ ap (λ (i : ℕ). get_or (d.written (disk s)) i 0) (omega (arith, begins)))
 
     pub read_within : at t ≤ end t → length (bytes_of_calls answers) ≤ end s
     read_within within =
-        let ends = end_of gives name disk at end tells written may_leave moment left_since step answers s t calls in
+        let ends = end_of gives name disk at end d step answers s t calls in
         omega (arith, read_so_far, within, ends)

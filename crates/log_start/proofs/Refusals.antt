@@ -1,8 +1,9 @@
 -- Why there is no start, where a file was found.
-use Rattle.std.proofs.Common.{◌≡◌, ◌≢◌, ◌⊎◌, inl, inr, ℕ, Bool, List, refl}
+use Rattle.std.proofs.Common.{◌≡◌, ◌≢◌, ◌⊎◌, inl, inr, ℕ, refl}
 use Rattle.batch_store.specs.Setups.{Setting}
 use Rattle.batch_store.specs.Books.{Listing}
 use Rattle.log_blocks.specs.Blocks.{Block}
+use Rattle.log_disk.specs.declared.disk.LogDisk.{Ghosts as Device}
 use Rattle.log_blocks.specs.declared.fault.LogFault.{LogFault}
 use Rattle.log_blocks.specs.declared.fault.LogKind.{LogKind}
 use Rattle.log_file.specs.Logs.{Log}
@@ -23,15 +24,12 @@ is_memory LogKind.Damaged = inr (λ e. absurd cc)
 is_memory LogKind.BadBlock = inr (λ e. absurd cc)
 is_memory LogKind.TooLong = inr (λ e. absurd cc)
 
-pub file_refused : {D : Type 0} (tells : D → Type 0) (written : D → List ℕ) (may_leave : D → List ℕ → Type 0)
-    (moment : D → ℕ) (left_since : D → ℕ → List ℕ → Type 0) (failures : D → ℕ) (in_doubt : D → Bool) (file : D) (len : ℕ)
-    (l : Log) (block : Block) (s : Setting) (o : LogOwner) (v : Listing) (old new : ℕ) (why : LogFault) (fault : StartFault) →
+pub file_refused : {D : Type 0} (d : Device D) (file : D) (len : ℕ) (l : Log) (block : Block) (s : Setting)
+    (o : LogOwner) (v : Listing) (old new : ℕ) (why : LogFault) (fault : StartFault) →
     (why.kind ≡ LogKind.Memory → fault ≡ StartFault.Memory) →
     (why.kind ≢ LogKind.Memory → fault ≡ StartFault.Log why) →
-    (after : D) × IsRefused tells written failures file after len why →
-    RefusesFound tells written may_leave moment left_since failures in_doubt file len l block s o v old new fault
-file_refused tells written may_leave moment left_since failures in_doubt file len l block s o v old new why fault memory
-    other refused =
+    (after : D) × IsRefused d file after len why → RefusesFound d file len l block s o v old new fault
+file_refused d file len l block s o v old new why fault memory other refused =
     elim (is_memory why.kind) [
       | inl m ↦ inl (memory m)
       | inr n ↦ inr (inl (record {

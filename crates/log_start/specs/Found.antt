@@ -8,6 +8,7 @@ use Rattle.std.specs.Prelude.{◌≡◌, ◌⊎◌, ℕ, ◌+◌, ◌/◌, ◌^�
 use Rattle.batch_store.specs.Batches.{Submission, values}
 use Rattle.batch_store.specs.Books.{HaveDims}
 use Rattle.log_disk.specs.Disk.{Elapses}
+use Rattle.log_disk.specs.declared.disk.LogDisk.{Ghosts as Device}
 use Rattle.log_blocks.specs.Files.{recovered}
 use Rattle.log_blocks.specs.declared.fault.LogFault.{LogFault}
 use Rattle.log_blocks.specs.declared.fault.LogKind.TheVariants.{Memory, Read, TooLong}
@@ -42,20 +43,19 @@ pub record IsFound (bytes : List ℕ) (log : FoundLog) : Type 0 where
   pub few : log.end.page ≤ 2 ^ 28
 
 -- the file has the same bytes, and a loss of power at any moment from old to new leaves what it might have left before
-pub record IsAsBefore {D : Type 0} (tells : D → Type 0) (written : D → List ℕ) (may_leave : D → List ℕ → Type 0)
-    (moment : D → ℕ) (left_since : D → ℕ → List ℕ → Type 0) (old new : D) : Type 0 where
-  pub told : tells new
-  pub same : written new ≡ written old
-  pub fewer : (left : List ℕ) → may_leave new left → may_leave old left
-  pub time : Elapses (moment old) (moment new) (left_since old) (left_since new) (may_leave old)
+pub record IsAsBefore {D : Type 0} (d : Device D) (old new : D) : Type 0 where
+  pub told : d.tells new
+  pub same : d.written new ≡ d.written old
+  pub fewer : (left : List ℕ) → d.may_leave new left → d.may_leave old left
+  pub time : Elapses (d.moment old) (d.moment new) (d.left_since old) (d.left_since new) (d.may_leave old)
 
 -- of a file that tells them, and has so many, these are the bytes
-abbrev pub AreBytesOf : {D : Type 0} → (D → Type 0) → (D → List ℕ) → D → ℕ → List ℕ → Type 0
-AreBytesOf tells written disk len bytes = tells disk → len ≡ length (written disk) → bytes ≡ written disk
+abbrev pub AreBytesOf : {D : Type 0} → Device D → D → ℕ → List ℕ → Type 0
+AreBytesOf d disk len bytes = d.tells disk → len ≡ length (d.written disk) → bytes ≡ d.written disk
 
-abbrev pub IsRefused : {D : Type 0} → (D → Type 0) → (D → List ℕ) → (D → ℕ) → D → D → ℕ → LogFault → Type 0
-IsRefused tells written failures old new len fault =
+abbrev pub IsRefused : {D : Type 0} → Device D → D → D → ℕ → LogFault → Type 0
+IsRefused d old new len fault =
     (fault.kind ≡ Memory)
-    ⊎ (((fault.kind ≡ Read) × (failures new ≡ failures old + 1))
-    ⊎ (((fault.kind ≡ TooLong) × (fault.page ≡ most_bytes / 4096) × (tells old → most_bytes < len))
-    ⊎ ((bytes : List ℕ) × HasLogFault bytes fault × AreBytesOf tells written old len bytes)))
+    ⊎ (((fault.kind ≡ Read) × (d.failure_count new ≡ d.failure_count old + 1))
+    ⊎ (((fault.kind ≡ TooLong) × (fault.page ≡ most_bytes / 4096) × (d.tells old → most_bytes < len))
+    ⊎ ((bytes : List ℕ) × HasLogFault bytes fault × AreBytesOf d old len bytes)))

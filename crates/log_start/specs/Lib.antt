@@ -1,4 +1,5 @@
 pub mod Found
 pub mod Fronts
 pub mod Records
+pub mod Restarts
 pub mod Starts

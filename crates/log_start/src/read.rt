@@ -98,12 +98,12 @@ fn read_source<D: LogDisk>(
     ensures same_reference { OnOk result (source.new.disk.ghost_name ≡ source.old.disk.ghost_name) }
     ensures first { IfOk result (λ file. file.head.first ≤ 2 ^ 30) }
     ensures none_failed { OnOk result (D.failure_count source.new.disk.now ≡ D.failure_count source.old.disk.now) }
-    ensures same { D.tells source.old.disk.now → OnOk result (IsAsBefore D.tells D.written D.may_leave D.moment
-        D.left_since source.old.disk.now source.new.disk.now) }
+    ensures same { D.tells source.old.disk.now → OnOk result (IsAsBefore D.LogDisk source.old.disk.now
+        source.new.disk.now) }
     ensures ok { IfOk result (λ file. (bytes : List ℕ) × IsBytes bytes × (length bytes ≤ most_bytes)
-        × HoldsLog bytes file × AreBytesOf D.tells D.written source.old.disk.now source.old.end bytes) }
-    ensures err { IfErr result (λ fault. IsRefused D.tells D.written D.failure_count source.old.disk.now
-        source.new.disk.now source.old.end fault) }
+        × HoldsLog bytes file × AreBytesOf D.LogDisk source.old.disk.now source.old.end bytes) }
+    ensures err { IfErr result (λ fault. IsRefused D.LogDisk source.old.disk.now source.new.disk.now
+        source.old.end fault) }
 {
     read_log(alloc, source, MOST_BYTES)
 }
@@ -115,12 +115,11 @@ fn read_file<D: LogDisk>(alloc: Global, disk: &mut D, size: u64) -> Result<LogFi
     ensures sound { OnOk result (D.in_doubt disk.new ≡ false) }
     ensures first { IfOk result (λ file. file.head.first ≤ 2 ^ 30) }
     ensures none_failed { OnOk result (D.failure_count disk.new ≡ D.failure_count disk.old) }
-    ensures same { D.tells disk.old → OnOk result (IsAsBefore D.tells D.written D.may_leave D.moment D.left_since
-        disk.old disk.new) }
+    ensures same { D.tells disk.old → OnOk result (IsAsBefore D.LogDisk disk.old disk.new) }
     ensures ok { IfOk result (λ file. (bytes : List ℕ) × IsBytes bytes × (length bytes ≤ most_bytes)
-        × HoldsLog bytes file × AreBytesOf D.tells D.written disk.old size bytes) }
+        × HoldsLog bytes file × AreBytesOf D.LogDisk disk.old size bytes) }
     ensures err { IfErr result (λ fault. (after : D) ×
-        IsRefused D.tells D.written D.failure_count disk.old after size fault) }
+        IsRefused D.LogDisk disk.old after size fault) }
 {
     let mut source = LogSource::new(disk, size);
     match read_source(alloc, &mut source) {
@@ -140,12 +139,11 @@ pub fn read_found<D: LogDisk>(alloc: Global, disk: &mut D, size: u64) -> Result<
     ensures sound { OnOk result (D.in_doubt disk.new ≡ false) }
     ensures none_failed { OnOk result (D.failure_count disk.new ≡ D.failure_count disk.old) }
     // The file is as it was, and these are its bytes, where it tells them.
-    ensures same { D.tells disk.old → OnOk result (IsAsBefore D.tells D.written D.may_leave D.moment D.left_since
-        disk.old disk.new) }
+    ensures same { D.tells disk.old → OnOk result (IsAsBefore D.LogDisk disk.old disk.new) }
     ensures ok { IfOk result (λ log. (bytes : List ℕ) × IsFound bytes log
-        × AreBytesOf D.tells D.written disk.old size bytes) }
+        × AreBytesOf D.LogDisk disk.old size bytes) }
     ensures err { IfErr result (λ fault. (after : D) ×
-        IsRefused D.tells D.written D.failure_count disk.old after size fault) }
+        IsRefused D.LogDisk disk.old after size fault) }
 {
     let file = match read_file(alloc, disk, size) {
         Ok(file) => file,

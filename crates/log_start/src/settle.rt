@@ -4,7 +4,7 @@ ghost use Rattle.batch_store.specs.Batches.{Submission};
 ghost use Rattle.log_blocks.specs.Blocks.{Block};
 ghost use Rattle.log_head.specs.declared.head.LogHead.{LogHead};
 ghost use Rattle.log_disk.specs.Disk.{LeavesOnly};
-ghost use Rattle.log_file.specs.Logs.{Log, IsBeforeOrAfter};
+ghost use Rattle.log_file.specs.Logs.{Log, MayHoldNext};
 ghost use Rattle.log_file.specs.Writer.{IsSettled, IsUnsettled};
 ghost use Rattle.log_start.specs.Found.{IsFound, ReadsAs};
 ghost use Rattle.log_start.specs.Records.{log_in};
@@ -29,7 +29,7 @@ pub fn settle_found<D: LogDisk + Drop>(
 ) -> Result<OpenLog<D>, StartFault>
     ghost kept: { Log × Block }
     requires told { D.tells file.disk →
-        IsFound (D.written file.disk) log.now × WasLeft D.written D.may_leave file.disk kept.0 kept.1 }
+        IsFound (D.written file.disk) log.now × WasLeft D.LogDisk file.disk kept.0 kept.1 }
     requires few { log.now.end.page ≤ 2 ^ 28 }
     requires sound { D.in_doubt file.disk ≡ false }
     requires failures { D.failure_count file.disk + 1 < 2 ^ 64 }
@@ -37,7 +37,7 @@ pub fn settle_found<D: LogDisk + Drop>(
         ReadsAs (D.written file.disk) head lists → IsSettled D.written D.may_leave o.file.disk o.writer
         (log_in (take 4096 (D.written file.disk)) head.first lists)) }
     ensures goes_on { D.tells file.disk → IfOk result (λ o.
-        GoesOn D.written D.may_leave D.moment D.left_since file.disk o.file.disk kept.0 kept.1) }
+        GoesOn D.LogDisk file.disk o.file.disk kept.0 kept.1) }
     ensures told { D.tells file.disk → IfOk result (λ o. D.tells o.file.disk) }
     ensures number { IfOk result (λ o. o.file.number ≡ file.number) }
     ensures sound { IfOk result (λ o. (D.in_doubt o.file.disk ≡ false)
@@ -49,7 +49,7 @@ pub fn settle_found<D: LogDisk + Drop>(
     // After a failure the file is one that can be settled again, and so is what a loss of power left meanwhile.
     ensures failed { OnErr result ((after : D) × (D.failure_count after ≡ D.failure_count file.disk + 1)
         × (D.tells file.disk → IsUnsettled D.written D.may_leave after kept.0 kept.1
-        × LeavesOnly D.moment D.left_since file.disk after (IsBeforeOrAfter kept.0 kept.1))) }
+        × LeavesOnly D.moment D.left_since file.disk after (MayHoldNext kept.0 kept.1))) }
 {
     let mut file = file;
     match LogWriter::settle(&mut file.disk, log.head.first, &log.end) {

@@ -68,8 +68,7 @@ fn begin_behind<F: LogFolder>(
         KeepsName F.named F.may_name folder.old folder.new) }
     ensures tells { F.tells folder.old ↔ F.tells folder.new }
     ensures failures { OnOk result (F.failure_count folder.new ≡ F.failure_count folder.old) }
-    ensures why { IfErr result (FailsNew F.Disk.in_doubt (F.failure_count folder.old)
-        (F.failure_count folder.new)) }
+    ensures why { IfErr result (FailsNew F.Disk.LogDisk (F.failure_count folder.old) (F.failure_count folder.new)) }
 {
     let head = head_of(setup, identity, &list);
     let mut page = [0; PAGE];
@@ -98,7 +97,7 @@ fn start_from<F: LogFolder>(
     requires teller { (disk : F.Disk) → F.Disk.tells disk → F.tells folder.old }
     requires told { F.tells folder.old → F.Disk.tells found.file.disk
         × (found.length ≡ length (F.Disk.written found.file.disk))
-        × MayGoOn F.Disk.written F.Disk.may_leave found.file.disk kept.0 kept.1 }
+        × MayGoOn F.Disk.LogDisk found.file.disk kept.0 kept.1 }
     requires named { F.tells folder.old → (F.named folder.old ≡ Some found.file.number)
         × ((x : Option ℕ) → F.may_name folder.old x → x ≡ F.named folder.old) }
     requires sound { F.Disk.in_doubt found.file.disk ≡ false }
@@ -106,12 +105,11 @@ fn start_from<F: LogFolder>(
     requires failures { F.failure_count folder.old + 1 < 2 ^ 64 }
     requires accepted { AreAccepted setup.now (accepted_in known) }
     ensures list { IfOk result (λ s. (bytes : List ℕ) × IsJoined setup.now owner.now known bytes s.list s.identity s.setup
-        × AreBytesOf F.Disk.tells F.Disk.written found.file.disk found.length bytes) }
+        × AreBytesOf F.Disk.LogDisk found.file.disk found.length bytes) }
     ensures log { IfOk result (λ s. (l : Log) × IsLogAs l s.setup s.identity (known_entries s.list) × (F.tells folder.old →
         IsSettled F.Disk.written F.Disk.may_leave s.log.file.disk s.log.writer l)) }
     ensures file { F.tells folder.old → IfOk result (λ s. (s.log.writer.page ≡ 1)
-        ⊎ GoesOn F.Disk.written F.Disk.may_leave F.Disk.moment F.Disk.left_since found.file.disk s.log.file.disk
-        kept.0 kept.1) }
+        ⊎ GoesOn F.Disk.LogDisk found.file.disk s.log.file.disk kept.0 kept.1) }
     ensures told { F.tells folder.old → IfOk result (λ s. F.Disk.tells s.log.file.disk) }
     ensures named { F.tells folder.old → IfOk result (λ s. (F.named folder.new ≡ Some s.log.file.number)
         × ((x : Option ℕ) → F.may_name folder.new x → x ≡ Some s.log.file.number)) }
@@ -124,9 +122,8 @@ fn start_from<F: LogFolder>(
         KeepsName F.named F.may_name folder.old folder.new) }
     ensures tells { F.tells folder.old ↔ F.tells folder.new }
     ensures failures { OnOk result (F.failure_count folder.new ≡ F.failure_count folder.old) }
-    ensures why { IfErr result (λ fault. RefusesFound F.Disk.tells F.Disk.written F.Disk.may_leave F.Disk.moment
-        F.Disk.left_since F.Disk.failure_count F.Disk.in_doubt found.file.disk found.length kept.0 kept.1 setup.now owner.now known
-        (F.failure_count folder.old) (F.failure_count folder.new) fault) }
+    ensures why { IfErr result (λ fault. RefusesFound F.Disk.LogDisk found.file.disk found.length kept.0 kept.1
+        setup.now owner.now known (F.failure_count folder.old) (F.failure_count folder.new) fault) }
 {
     let mut file = found.file;
     let log = match read_found(alloc, &mut file.disk, found.length) {
@@ -185,13 +182,13 @@ pub fn start_log<F: LogFolder>(
     // The log that a file under the name has, and the next block, of which it may have any part.
     ghost kept: { Log × Block }
     requires left { F.tells folder.old → (disk : F.Disk) → F.stored folder.old disk → F.Disk.tells disk
-        × MayGoOn F.Disk.written F.Disk.may_leave disk kept.0 kept.1 }
+        × MayGoOn F.Disk.LogDisk disk kept.0 kept.1 }
     requires failures { F.failure_count folder.old + 1 < 2 ^ 64 }
     requires accepted { AreAccepted setup.now (accepted_in known) }
 
     // The list is the known one, or that which it and the log make; and the log is the snapshot's, or of one that neither
     // says.
-    ensures list { IfOk result (λ s. IsList (F.tells folder.old) (F.stored folder.old) F.Disk.written
+    ensures list { IfOk result (λ s. IsList F.Disk.LogDisk (F.tells folder.old) (F.stored folder.old)
         (F.named folder.old) setup.now owner.now known s.list s.identity s.setup) }
     ensures accepted { IfOk result (λ s. AreAccepted setup.now (accepted_in s.list)) }
     ensures begins { IfOk result (λ s. IsPrefix (known_entries known) (known_entries s.list)) }
@@ -207,8 +204,7 @@ pub fn start_log<F: LogFolder>(
         × ((x : Option ℕ) → F.may_name folder.new x → x ≡ Some s.log.file.number)) }
     // It is a new log, or in the file that was found, of which a loss of power at any moment left what that had.
     ensures file { F.tells folder.old → IfOk result (λ s. (s.log.writer.page ≡ 1) ⊎ ((old : F.Disk)
-        × F.stored folder.old old × GoesOn F.Disk.written F.Disk.may_leave F.Disk.moment F.Disk.left_since old
-        s.log.file.disk kept.0 kept.1)) }
+        × F.stored folder.old old × GoesOn F.Disk.LogDisk old s.log.file.disk kept.0 kept.1)) }
 
     ensures sound { IfOk result (λ s. (F.Disk.in_doubt s.log.file.disk ≡ false)
         × (F.Disk.failure_count s.log.file.disk ≡ 0)) }
@@ -224,8 +220,7 @@ pub fn start_log<F: LogFolder>(
     ensures why { IfErr result (λ fault.
         FailsToFind F.call_gives folder.old folder.new (F.failure_count folder.old) (F.failure_count folder.new) fault
         ⊎ ((found : F) × HasFound F.call_gives folder.old found
-        × RefusesStart (F.tells folder.old) (F.stored folder.old) F.Disk.tells F.Disk.written F.Disk.may_leave
-        F.Disk.moment F.Disk.left_since F.Disk.failure_count F.Disk.in_doubt (F.named folder.old) kept.0 kept.1
+        × RefusesStart F.Disk.LogDisk (F.tells folder.old) (F.stored folder.old) (F.named folder.old) kept.0 kept.1
         setup.now owner.now known (F.failure_count folder.old) (F.failure_count folder.new) fault)) }
 {
     match find_log(folder) {

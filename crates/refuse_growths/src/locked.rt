@@ -1,6 +1,6 @@
 //! The engine of several threads: it is opened, a batch is put from one seat and read from another, it is folded, and it is
 //! closed.
-ghost use Rattle.std.specs.Prelude.{◌≡◌};
+ghost use Rattle.std.specs.Prelude.{◌≡◌, None};
 ghost use Rattle.std.specs.Arc.{arc_value};
 ghost use Rattle.batch_store.specs.Accepted.{entries_in};
 ghost use Rattle.locked_engine.specs.Opened.{NamesEngine};
@@ -62,6 +62,7 @@ fn run_named<N: Named, H: Ledger, R: Wait + Print>(
     requires opened { plain.book.state ≡ N.opened }
     requires rows { (arc_value b.now).matrix.rows ≡ N.setup.rows }
     requires cols { (arc_value b.now).matrix.cols ≡ N.setup.cols }
+    requires unlogged { N.log ≡ None }
 {
     let (engine, mut seats) = open_at_last::<N, H, R>(rt, alloc, plain, names)?;
     if let Err(stop) = show_seats(rt, alloc, &engine, &mut seats, b) {

@@ -1,4 +1,5 @@
 //! A fold of an engine of several threads that runs: what is sealed, summed up and settled.
+ghost use Rattle.std.specs.Prelude.{◌≡◌, None};
 
 use crate::seats::show_status;
 use crate::show::{say, tell};
@@ -14,7 +15,9 @@ pub fn show_fold<N: Named, H: Ledger, R: Wait + Print>(
     alloc: Global,
     engine: &Engine<N, H>,
     seat: &mut Seat<N, H>,
-) -> Result<(), Stop> {
+) -> Result<(), Stop>
+    requires { N.log ≡ None }
+{
     let Some(mut folder) = engine.folder(alloc) else {
         return Err(Stop::Fault);
     };
@@ -29,7 +32,9 @@ fn show_steps<N: Named, H: Ledger, R: Wait + Print>(
     engine: &Engine<N, H>,
     seat: &mut Seat<N, H>,
     folder: &mut Folder,
-) -> Result<(), Stop> {
+) -> Result<(), Stop>
+    requires { N.log ≡ None }
+{
     let Some(place) = seal_at_last(rt, alloc, engine, seat, folder)? else {
         return Err(Stop::Fault);
     };
@@ -76,7 +81,9 @@ fn fold_at_last<N: Named, H: Ledger, R: Wait + Print>(
     engine: &Engine<N, H>,
     seat: &mut Seat<N, H>,
     folder: &mut Folder,
-) -> Result<bool, AllocError> {
+) -> Result<bool, AllocError>
+    requires { N.log ≡ None }
+{
     match engine.fold(rt, alloc, folder) {
         Ok(folds) => Ok(folds),
         Err(_) => {

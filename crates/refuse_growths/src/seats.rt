@@ -1,5 +1,5 @@
 //! What is put from one seat of an engine of several threads, and read from another.
-ghost use Rattle.std.specs.Prelude.{◌≡◌};
+ghost use Rattle.std.specs.Prelude.{◌≡◌, None};
 ghost use Rattle.std.specs.Arc.{arc_value};
 
 use crate::running::show_fold;
@@ -22,6 +22,7 @@ pub fn show_seats<N: Named, H: Ledger, R: Wait + Print>(
 ) -> Result<(), Stop>
     requires rows { (arc_value b.now).matrix.rows ≡ N.setup.rows }
     requires cols { (arc_value b.now).matrix.cols ≡ N.setup.cols }
+    requires unlogged { N.log ≡ None }
 {
     let [first, second] = seats else {
         return Err(Stop::Fault);

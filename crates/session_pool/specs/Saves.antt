@@ -2,6 +2,7 @@
 --     IsSaved saves d path v a
 --                     where there is a path, the disk d has answered that this was saved under it as what was accepted,
 --                     folded batches included, with its setup
+--     path_of path    a path as its bytes, if there is one
 --     of_origin saves o
 --                     what a disk has answered to be saved as of this origin
 --     IsBegun names d log path es
@@ -17,6 +18,10 @@ abbrev pub IsSaved : {D Z : Type 0} → (D → List ℕ → Setting → Accepted
     Setting → Accepted → Type 0
 IsSaved saves d None v a = Unit {0}
 IsSaved saves d (Some path) v a = saves d (string_bytes path) v a
+
+abbrev pub path_of : {Z : Type 0} → Option (String Z) → Option (List ℕ)
+path_of None = None
+path_of (Some path) = Some (string_bytes path)
 
 abbrev pub of_origin : {D : Type 0} → (D → List ℕ → Origin → Setting → Accepted → Type 0) → Origin → D → List ℕ →
     Setting → Accepted → Type 0

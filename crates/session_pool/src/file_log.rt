@@ -23,7 +23,7 @@ impl FileLog {
 }
 
 impl Log for FileLog {
-    ghost use Rattle.std.specs.Prelude.{⊤, []};
+    ghost use Rattle.std.specs.Prelude.{◌≡◌, true, ⊤, []};
     ghost use Rattle.log_folder.specs.declared.file_disk.FileDisk.{FileDisk};
     ghost use Rattle.stored_log.specs.Kept.{is_failed, room_of, WasSynced, HasFailed, WasFull};
     ghost use Rattle.stored_log.specs.Sizes.{pages_taken};
@@ -35,6 +35,8 @@ impl Log for FileLog {
     ghost ready = { λ l. room_of l.stored.in_use };
 
     ghost takes = { pages_taken };
+
+    ghost has_name = { λ l path. l.stored.named ≡ true };
 
     ghost was_synced = { WasSynced ⊥ (λ (d : FileDisk). ⊥) (λ d. []) (λ d left. ⊥) };
 

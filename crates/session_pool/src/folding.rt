@@ -1,5 +1,5 @@
 //! Folding what an engine has accepted, beside the workers of a pool.
-ghost use Rattle.std.specs.Prelude.{◌≡◌, ◌↔◌, ◌<◌, ◌≤◌, Err, IfSome, IsTrue, OnOk, length};
+ghost use Rattle.std.specs.Prelude.{◌≡◌, ◌↔◌, ◌<◌, ◌≤◌, Err, IfSome, IsTrue, OnOk, is_some, length};
 ghost use Rattle.session_pool.specs.Seats.{Grows, IsLogged};
 
 use crate::saver::Saver;
@@ -32,6 +32,8 @@ fn settle<N: Named, H: Ledger, L: Log, R: Wait>(
     folder: &mut Folder,
     place: u64,
 ) -> Result<(), FoldRefusal>
+    requires logged { is_some log.old ≡ is_some N.log }
+    ensures logged { is_some log.new ≡ is_some N.log }
     ensures grows { Grows log.old log.new }
     ensures durable { OnOk result (IfSome log.new (λ known. place ≤ length known)) }
     ensures failed { result ≡ Err FoldRefusal.LogFailed → IsLogged log.new × L.has_failed }
@@ -59,6 +61,8 @@ fn fold_once<N: Named, H: Ledger, L: Log, R: Wait>(
     log: &mut Option<SessionLog<'_, N, L>>,
     folder: &mut Folder,
 ) -> Result<(), FoldRefusal>
+    requires logged { is_some log.old ≡ is_some N.log }
+    ensures logged { is_some log.new ≡ is_some N.log }
     ensures grows { Grows log.old log.new }
     ensures failed { result ≡ Err FoldRefusal.LogFailed → IsLogged log.new × L.has_failed }
     ensures differ { result ≡ Err FoldRefusal.RecordsDiffer → IsLogged log.new }
@@ -130,6 +134,8 @@ impl Folding {
         saver: &Saver,
         log: &mut Option<SessionLog<'_, N, L>>,
     ) -> Result<(), FoldRefusal>
+        requires logged { is_some log.old ≡ is_some N.log }
+        ensures logged { is_some log.new ≡ is_some N.log }
         ensures grows { Grows log.old log.new }
         ensures failed { result ≡ Err FoldRefusal.LogFailed → IsLogged log.new × L.has_failed }
         ensures differ { result ≡ Err FoldRefusal.RecordsDiffer → IsLogged log.new }
@@ -159,7 +165,9 @@ impl Folding {
         engine: &Engine<N, H>,
         saver: &Saver,
         desk: Option<&LogDesk<N, L>>,
-    ) {
+    )
+        requires { is_some desk ≡ is_some N.log }
+    {
         let mut guard = self.folder.lock(rt);
         let Some(folder) = &mut *guard else {
             return;

@@ -74,6 +74,7 @@ pub trait LogPlace<L: Log> {
         requires working { L.failed new ≡ false }
         ensures working { OnOk result (L.failed in_use.new ≡ false) }
         ensures durable { OnOk result (L.durable in_use.new ≡ L.durable new) }
+        ensures has_name { OnOk result (L.has_name in_use.new path.now) }
         ensures named { OnOk result (names self.now path.now (L.durable new)) }
         ensures stands { OnErr result ((in_use.new ≡ in_use.old) ⊎ ((L.failed in_use.new ≡ true) × L.has_failed)) };
 

@@ -1,15 +1,16 @@
-//! How a new log takes the place of the one in use, behind a list that was saved.
-ghost use Rattle.std.specs.Prelude.{◌≡◌, ◌≤◌, List, false, length, IfOk, OnOk, IsSomeAnd};
+//! How a new log takes the place of the one in use, after a list that was saved.
+ghost use Rattle.std.specs.Prelude.{◌≡◌, ◌≤◌, List, Some, false, length, IfOk, OnOk, IsSomeAnd};
 ghost use Rattle.batch_store.specs.declared.verdict.Entry.{Entry};
 ghost use Rattle.batch_store.specs.Accepted.{entries_in};
 ghost use Rattle.batch_store.specs.Books.{AreAccepted, accepted_in};
 
 use crate::disk::Disk;
 use crate::log_place::LogPlace;
+use crate::new_log::NewLog;
 use batch_store::{BookList, Setup};
 use byte_io::WriteFault;
 use locked_engine::{Engine, Named, Version};
-use log_desk::{DeskFault, Durable, Group, Log, LogDesk, Turn, TurnWork};
+use log_desk::{DeskFault, Durable, Group, Log, LogDesk, RoomFault, TurnWork};
 use log_folder::LogNews;
 use snap_file::{Origin, SaveFault};
 use std::alloc::Global;
@@ -36,7 +37,15 @@ fn not_written(fault: DeskFault) -> SaveFault {
     }
 }
 
-// Begins a new log behind a list, whose entries these are.
+// Why no room was made in a new log.
+fn no_room(fault: RoomFault) -> DeskFault {
+    match fault {
+        RoomFault::Full => DeskFault::LogFull,
+        RoomFault::Failed => DeskFault::LogFailed,
+    }
+}
+
+// Begins a new log after a list, whose entries these are.
 fn begin<N: Named, L: Log, R: LogPlace<L>>(
     rt: &R,
     alloc: Global,
@@ -44,7 +53,7 @@ fn begin<N: Named, L: Log, R: LogPlace<L>>(
     setup: &Setup,
     list: &BookList,
     shown: Version<N>,
-) -> Result<Turn<N, L>, SaveFault>
+) -> Result<NewLog<N, L>, SaveFault>
     requires accepted { AreAccepted setup.now (accepted_in list.now) }
     requires shown { shown ≡ entries_in (accepted_in list.now) }
     ensures works { IfOk result (λ new. new.failed ≡ false) }
@@ -63,7 +72,7 @@ fn begin<N: Named, L: Log, R: LogPlace<L>>(
         list,
         names.news,
     ) {
-        Ok(log) => Ok(Turn::new(log, Durable::all_of(&shown), group)),
+        Ok(log) => Ok(NewLog::new(log, Durable::all_of(&shown), group)),
         Err(fault) => Err(fault),
     }
 }
@@ -72,14 +81,14 @@ fn begin<N: Named, L: Log, R: LogPlace<L>>(
 fn catch_up<N: Named, H: Ledger, L: Log, R: Wait>(
     rt: &R,
     engine: &Engine<N, H>,
-    new: &mut Turn<N, L>,
+    new: &mut NewLog<N, L>,
     count: u64,
 ) -> Result<(), DeskFault>
     requires works { new.old.failed ≡ false }
     ensures works { OnOk result (new.new.failed ≡ false) }
     ensures whole { OnOk result (count ≤ length new.new.durable) }
 {
-    while new.durable().count() < count {
+    while new.count() < count {
         if let Err(fault) = new.write_group(rt, engine) {
             return Err(fault);
         }
@@ -91,14 +100,14 @@ fn catch_up<N: Named, H: Ledger, L: Log, R: Wait>(
 fn prepare<N: Named, H: Ledger, L: Log, R: Wait>(
     rt: &R,
     engine: &Engine<N, H>,
-    new: &mut Turn<N, L>,
+    new: &mut NewLog<N, L>,
     count: u64,
 ) -> Result<(), DeskFault>
     requires works { new.old.failed ≡ false }
     ensures works { OnOk result (new.new.failed ≡ false) }
 {
     if let Err(fault) = new.make_room(0) {
-        return Err(fault);
+        return Err(no_room(fault));
     }
     catch_up(rt, engine, new, count)
 }
@@ -108,7 +117,7 @@ fn prepare<N: Named, H: Ledger, L: Log, R: Wait>(
 fn complete<N: Named, H: Ledger, L: Log, R: Wait>(
     rt: &R,
     engine: &Engine<N, H>,
-    new: &mut Turn<N, L>,
+    new: &mut NewLog<N, L>,
     count: u64,
     promised: u64,
 ) -> Result<(), DeskFault>
@@ -123,7 +132,10 @@ fn complete<N: Named, H: Ledger, L: Log, R: Wait>(
     if new.room() >= promised {
         return Ok(());
     }
-    new.make_room(promised)
+    match new.make_room(promised) {
+        Ok(()) => Ok(()),
+        Err(fault) => Err(no_room(fault)),
+    }
 }
 
 /// What is done with the log in its turn: the new one is brought to where the one in use is, and gets the name.
@@ -132,8 +144,10 @@ struct Rotation<'a, N: Named, H: Ledger, L: Log, R> {
     alloc: Global,
     engine: &'a Engine<N, H>,
     names: LogNames<'a>,
-    new: Turn<N, L>,
+    new: NewLog<N, L>,
     pub ghost works: { new.failed ≡ false },
+    // It gets the name of the engine's log.
+    pub ghost named: { N.log ≡ Some names.log.now },
 }
 
 impl<'a, N: Named, H: Ledger, L: Log, R: Wait + LogPlace<L>> TurnWork<N, L, Result<(), SaveFault>>
@@ -178,7 +192,7 @@ impl<'a, N: Named, H: Ledger, L: Log, R: Wait + LogPlace<L>> TurnWork<N, L, Resu
 ///
 /// # Errors
 ///
-/// The log in use stands as it was, but after `Rename`: then it is failed.
+/// The log in use is as it was, but after `Rename`: then it is failed.
 pub(crate) fn rotate<N: Named, H: Ledger, L: Log, R: Wait + Disk + LogPlace<L>>(
     rt: &R,
     alloc: Global,
@@ -189,7 +203,8 @@ pub(crate) fn rotate<N: Named, H: Ledger, L: Log, R: Wait + Disk + LogPlace<L>>(
     shown: Version<N>,
 ) -> Result<(), SaveFault>
     requires accepted { AreAccepted N.setup (accepted_in list.now) }
-    // The new log has none of the list's batches, so the list must stand in the snapshot.
+    requires path { N.log ≡ Some names.log.now }
+    // The new log has none of the list's batches, so the snapshot must have them.
     requires saved { IsSomeAnd names.snapshot (λ path.
         R.saves rt.now path.now names.origin N.setup (accepted_in list.now)) }
     requires shown { shown ≡ entries_in (accepted_in list.now) }

@@ -26,6 +26,8 @@
 --                     was saved so
 --     IsMarkedLog begins names h log p u i a
 --                     where there is a log, it is of setup p and identity i: its head u says both, or it was renewed so
+--     HasName has log path
+--                     where there is a log and a path, it has this path by the names that it has
 --     IsReady failed durable synced log a
 --                     where there is a log, it works, and what is durable in it is this, behind a sync
 --     StartsUnder loads heads starts saves begins names h path log must_load g f p i a
@@ -70,6 +72,7 @@ use Rattle.log_start.specs.declared.fault.StartFault.{StartFault}
 use Rattle.log_start.specs.declared.fault.StartFault.TheVariants as start
 use Rattle.socket_server.specs.declared.log_host.LogOrigin.{LogOrigin}
 use Rattle.log_start.specs.declared.owner.LogOwner.{LogOwner}
+use Rattle.log_desk.specs.Standings.{IsNamed}
 use Rattle.session_pool.specs.Saves.{IsSaved, of_origin}
 use Rattle.socket_server.specs.Ends.{GoesOn}
 use Rattle.socket_server.specs.Faults.{IsMet}
@@ -216,6 +219,10 @@ abbrev pub IsReady : {L : Type 0} → (L → Bool) → (L → List Entry) → (L
 IsReady failed durable synced None a = Unit {0}
 IsReady failed durable synced (Some log) a =
     (failed log ≡ false) × (durable log ≡ entries_in a) × synced (entries_in a)
+
+abbrev pub HasName : {L : Type 0} → (L → List ℕ → Type 0) → Option L → Option (List ℕ) → Type 0
+HasName has None path = Unit {0}
+HasName has (Some log) path = IsNamed path (has log)
 
 abbrev pub StartsUnder : {H Y Z : Type 0} → (H → List ℕ → ℕ → Result Saved FileFault → Type 0) →
     (H → List ℕ → Result (Option Setting) StartFault → Type 0) →

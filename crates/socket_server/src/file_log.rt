@@ -1,5 +1,5 @@
 //! Logs in files, for every runtime that has files.
-ghost use Rattle.std.specs.Prelude.{◌≡◌, ◌+◌, ◌<◌, ◌^◌, ⊤, false, IfOk};
+ghost use Rattle.std.specs.Prelude.{◌≡◌, ◌+◌, ◌<◌, ◌^◌, ⊤, true, false, IfOk};
 ghost use Rattle.batch_store.specs.Accepted.{entries_in};
 ghost use Rattle.batch_store.specs.Books.{AreAccepted, accepted_in};
 ghost use Rattle.snap_file.specs.Snapshots.{HasBase};
@@ -86,6 +86,7 @@ fn start_untold<F: LogFolder>(
     ensures later { IfOk result (λ r. GoesOn (accepted_in known) (accepted_in r.1)) }
     ensures folded { IfOk result (λ r. r.1.folded ≡ known.folded) }
     ensures works { IfOk result (λ r. is_failed F.Disk.in_doubt r.0.in_use ≡ false) }
+    ensures named { IfOk result (λ r. r.0.named ≡ true) }
     ensures entries { IfOk result (λ r. r.0.entries ≡ entries_in (accepted_in r.1)) }
     ensures synced { IfOk result (λ r. WasSynced F.Disk.telling F.Disk.tells F.Disk.written F.Disk.may_leave
         (entries_in (accepted_in r.1))) }
@@ -101,7 +102,7 @@ fn start_untold<F: LogFolder>(
     };
     let head = LogOrigin { setup, identity };
     *mark = Some(log.writer.mark());
-    match StoredLog::new(alloc, log, &list) {
+    match StoredLog::of_start(alloc, log, &list) {
         Ok(log) => Ok((log, list, head)),
         Err(_) => Err(StartFault::Memory),
     }

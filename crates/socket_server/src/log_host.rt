@@ -73,6 +73,7 @@ pub trait LogHost<L: Log> {
         ensures later { IfOk result (λ r. GoesOn (accepted_in known) (accepted_in r.1)) }
         ensures folded { IfOk result (λ r. r.1.folded ≡ known.folded) }
         ensures works { IfOk result (λ r. L.failed r.0 ≡ false) }
+        ensures named { IfOk result (λ r. L.has_name r.0 path.now) }
         ensures durable { IfOk result (λ r. L.durable r.0 ≡ entries_in (accepted_in r.1)) }
         ensures synced { IfOk result (λ r. L.was_synced (entries_in (accepted_in r.1))) };
 }

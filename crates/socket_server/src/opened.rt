@@ -8,12 +8,13 @@ ghost use Rattle.locked_engine.specs.Opened.{NamesEngine, opened_seats};
 ghost use Rattle.locked_engine.specs.Told.{AreShown};
 ghost use Rattle.locked_engine.specs.Versions.{version_status};
 ghost use Rattle.socket_server.specs.Faults.{IsMetServing};
-ghost use Rattle.socket_server.specs.Starts.{IsReady};
+ghost use Rattle.log_desk.specs.Standings.{IsNamed, IsWord};
+ghost use Rattle.socket_server.specs.Starts.{HasName, IsReady};
 
 use crate::fault::ServerFault;
 use crate::start::Start;
 use locked_engine::{Engine, Named, Names, Seat, Status};
-use log_desk::{Durable, Log, LogDesk};
+use log_desk::{DeskFault, Durable, Log, LogDesk};
 use std::alloc::Global;
 use std::marker::Model;
 use std::sync::Wait;
@@ -25,6 +26,14 @@ use std::sync::ledger::Ledger;
 pub struct SharedLog<N: Named, L: Log> {
     desk: LogDesk<N, L>,
     known: Durable<N, L>,
+}
+
+/// How a log ends: all that was accepted is written to it, or it has failed, or is full.
+#[derive(Clone, Copy)]
+pub enum LogEnd {
+    Written,
+    Full,
+    Failed,
 }
 
 impl<N: Named, L: Log> Model for SharedLog<N, L> {
@@ -50,6 +59,8 @@ impl<N: Named, L: Log> SharedLog<N, L> {
         requires works { L.failed log ≡ false }
         requires durable { L.durable log ≡ entries_in N.opened }
         requires synced { L.was_synced (entries_in N.opened) }
+        requires has_name { IsNamed N.log (L.has_name log) }
+        requires word { IsWord L.was_synced N.synced }
         requires seats { (total n : ℕ) × (seats.now ≡ opened_seats (entries_in N.opened) total n) }
         ensures met { IfErr result IsMetServing }
     {
@@ -71,9 +82,16 @@ impl<N: Named, L: Log> SharedLog<N, L> {
 
     /// Writes what was accepted and isn't in the log, as where a session has ended before its batches were settled. A log
     /// that is full or has failed lacks it still.
-    pub fn write_rest<H: Ledger, R: Wait>(&mut self, rt: &R, engine: &Engine<N, H>) {
+    pub fn write_rest<H: Ledger, R: Wait>(&mut self, rt: &R, engine: &Engine<N, H>) -> LogEnd
+        ensures failed { result ≡ LogEnd.Failed → L.has_failed }
+        ensures full { result ≡ LogEnd.Full → L.was_full }
+    {
         // No place is the last one: groups are written until the book has no more, and that is the answer.
-        let _ = self.desk.wait(rt, engine, &mut self.known, u64::MAX);
+        match self.desk.wait(rt, engine, &mut self.known, u64::MAX) {
+            Ok(()) | Err(DeskFault::HistoriesDiffer) => LogEnd::Written,
+            Err(DeskFault::LogFull) => LogEnd::Full,
+            Err(DeskFault::LogFailed) => LogEnd::Failed,
+        }
     }
 
     /// Learns what is durable in the end, when no worker is left. The seats' first is shown what was accepted. Whether
@@ -137,6 +155,8 @@ impl<N: Named, H: Ledger, L: Log> Opened<N, H, L> {
         requires made_from { start.plain.setup ≡ names.setup }
         requires opened { start.plain.book.state ≡ N.opened }
         requires ready { IsReady L.failed L.durable L.was_synced start.log N.opened }
+        requires has_name { HasName L.has_name start.log N.log }
+        requires word { IsWord L.was_synced N.synced }
         ensures seats { IfOk result (λ o. length o.seats.items ≡ N.seats) }
         ensures has_log { IfOk result (λ o. is_some o.log ≡ is_some start.log) }
         ensures met { IfErr result IsMetServing }

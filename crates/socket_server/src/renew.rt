@@ -157,6 +157,7 @@ impl<'a> Renewal<'a> {
         ensures begun { OnOk result ((es : List Entry)
             × R.begins rt.now self.now.log.now self.now.setup.now self.now.identity es) }
         ensures named { OnOk result (R.names rt.now self.now.log.now (entries_in (accepted_in list.now))) }
+        ensures has_name { IfOk result (λ log. L.has_name log self.now.log.now) }
     {
         let new = self.begin_whole(rt, list)?;
         let mut log = in_use;

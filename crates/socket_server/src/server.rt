@@ -4,12 +4,13 @@ ghost use Rattle.std.specs.Prelude.{is_some, true};
 ghost use Rattle.batch_store.specs.Accepted.{Accepted};
 ghost use Rattle.batch_store.specs.Setups.{Setting};
 ghost use Rattle.locked_engine.specs.Opened.{NamesEngine};
-ghost use Rattle.session_pool.specs.Saves.{of_origin};
+ghost use Rattle.log_desk.specs.Standings.{IsWord};
+ghost use Rattle.session_pool.specs.Saves.{of_origin, path_of};
 ghost use Rattle.snap_file.specs.Origins.{origin};
 ghost use Rattle.snap_file.specs.declared.origin.Identity.{Identity};
 ghost use Rattle.socket_server.specs.Ends.{HasEnded, IsShort, stopped};
 ghost use Rattle.socket_server.specs.Faults.{IsMet, IsMetServing, MayEnd};
-ghost use Rattle.socket_server.specs.Starts.{IsReady, StartsFrom, IsLocked, IsLoadTold, IsLogTold, IsOnePath};
+ghost use Rattle.socket_server.specs.Starts.{HasName, IsReady, StartsFrom, IsLocked, IsLoadTold, IsLogTold, IsOnePath};
 ghost use Rattle.socket_server.specs.Starts.{IsReserved};
 
 use crate::bind::{Listeners, Places, bind_listeners, tell};
@@ -60,9 +61,11 @@ fn serve_open<
     saver: &Saver,
 ) -> Result<Stopped, ServerFault>
     requires seats { length opened.seats.items ≡ N.seats }
+    requires logged { is_some opened.log ≡ is_some N.log }
+    requires path { path_of saver.now.log ≡ N.log }
     ensures ended { IfOk result
-        (HasEnded (of_origin R.saves saver.now.origin) rt.now L.was_synced saver.now.path N.setup
-        (is_some opened.log) N.opened) }
+        (HasEnded (of_origin R.saves saver.now.origin) rt.now L.was_synced L.has_failed L.was_full saver.now.path
+        N.setup (is_some opened.log) N.opened) }
     ensures met { IfErr result IsMetServing }
 {
     if let Err(fault) = serve_listeners(
@@ -121,9 +124,11 @@ fn serve_bound<
     saver: &Saver,
 ) -> Result<Stopped, ServerFault>
     requires seats { length opened.seats.items ≡ N.seats }
+    requires logged { is_some opened.log ≡ is_some N.log }
+    requires path { path_of saver.now.log ≡ N.log }
     ensures ended { IfOk result
-        (HasEnded (of_origin R.saves saver.now.origin) rt.now L.was_synced saver.now.path N.setup
-        (is_some opened.log) N.opened) }
+        (HasEnded (of_origin R.saves saver.now.origin) rt.now L.was_synced L.has_failed L.was_full saver.now.path
+        N.setup (is_some opened.log) N.opened) }
     ensures met { IfErr result IsMetServing }
 {
     let outcome = serve_open(rt, alloc, opened, &listeners, saver);
@@ -160,10 +165,14 @@ fn serve_named<
     requires made_from { start.plain.setup ≡ names.setup }
     requires opened { start.plain.book.state ≡ N.opened }
     requires ready { IsReady L.failed L.durable L.was_synced start.log N.opened }
+    requires has_name { HasName L.has_name start.log N.log }
+    requires logged { is_some start.log ≡ is_some N.log }
+    requires path { path_of plan.saver.log ≡ N.log }
+    requires word { IsWord L.was_synced N.synced }
     ensures failures { OnOk result (W.failure_count out.new ≡ W.failure_count out.old) }
     ensures ended { IfOk result
-        (HasEnded (of_origin R.saves plan.saver.origin) rt.now L.was_synced plan.saver.path names.setup
-        (is_some start.log) N.opened) }
+        (HasEnded (of_origin R.saves plan.saver.origin) rt.now L.was_synced L.has_failed L.was_full plan.saver.path
+        names.setup (is_some start.log) N.opened) }
     ensures met { IfErr result IsMetServing }
 {
     let opened = match Opened::<N, H, L>::open(rt, alloc, start, names) {
@@ -206,11 +215,13 @@ fn serve_plan<
     requires failures { W.failure_count out.old + 1 < 2 ^ 64 }
     requires workers { (1 ≤ workers) × (workers ≤ 32) }
     requires ready { IsReady L.failed L.durable L.was_synced start.log start.plain.book.state }
+    requires has_name { HasName L.has_name start.log (path_of plan.saver.log) }
+    requires logged { is_some start.log ≡ is_some (path_of plan.saver.log) }
     ensures ended { IfOk result (λ s. HasEnded (of_origin R.saves plan.saver.origin) rt.now
-        L.was_synced plan.saver.path start.plain.setup
+        L.was_synced L.has_failed L.was_full plan.saver.path start.plain.setup
         (is_some start.log) start.plain.book.state (stopped s 0)) }
     ensures short { IfErr result (IsShort (HasEnded (of_origin R.saves plan.saver.origin) rt.now
-        L.was_synced plan.saver.path start.plain.setup
+        L.was_synced L.has_failed L.was_full plan.saver.path start.plain.setup
         (is_some start.log) start.plain.book.state)) }
     ensures met { IfErr result (MayEnd IsMetServing) }
 {
@@ -285,6 +296,7 @@ fn failure_of_saves(alloc: Global, news: &Arc<LogNews>) -> Result<SaveFailure, S
 // Where a server listens, and where it saves, as its settings say.
 fn plan_of(settings: Settings, identity: Identity, failure: SaveFailure, counters: Counters) -> Plan
     ensures path { result.saver.path ≡ settings.snapshot }
+    ensures log { result.saver.log ≡ settings.log }
     ensures origin { result.saver.origin ≡ origin identity (is_some settings.log) }
 {
     let has_log = settings.log.is_some();
@@ -349,11 +361,11 @@ fn serve_settings<
     ensures ended { IfOk result (λ s. (v : Setting) × (a : Accepted) × (i : Identity)
         × StartsFrom R.loads R.log_heads R.log_starts R.saves R.begins R.names rt.now settings.snapshot settings.log
         settings.must_load settings.numbers v i a × HasEnded (of_origin R.saves (origin i (is_some settings.log)))
-        rt.now L.was_synced settings.snapshot v (is_some settings.log) a (stopped s 0)) }
+        rt.now L.was_synced L.has_failed L.was_full settings.snapshot v (is_some settings.log) a (stopped s 0)) }
     ensures short { IfErr result (IsShort (λ s. (v : Setting) × (a : Accepted) × (i : Identity)
         × StartsFrom R.loads R.log_heads R.log_starts R.saves R.begins R.names rt.now settings.snapshot settings.log
         settings.must_load settings.numbers v i a × HasEnded (of_origin R.saves (origin i (is_some settings.log)))
-        rt.now L.was_synced settings.snapshot v (is_some settings.log) a s)) }
+        rt.now L.was_synced L.has_failed L.was_full settings.snapshot v (is_some settings.log) a s)) }
     ensures met { IfErr result (MayEnd (IsMet settings.must_load)) }
     ensures told { IfErr result (λ f. IsLoadTold R.loads R.locks rt.now settings.snapshot settings.numbers f) }
     ensures log_told { IfErr result (λ f. IsLogTold R.loads R.locks R.log_heads R.log_starts rt.now settings.snapshot
@@ -446,11 +458,11 @@ pub fn run_server<
     ensures ended { IfOk result (λ s. (v : Setting) × (a : Accepted) × (i : Identity)
         × StartsFrom R.loads R.log_heads R.log_starts R.saves R.begins R.names rt.now settings.snapshot settings.log
         settings.must_load settings.numbers v i a × HasEnded (of_origin R.saves (origin i (is_some settings.log)))
-        rt.now L.was_synced settings.snapshot v (is_some settings.log) a (stopped s 0)) }
+        rt.now L.was_synced L.has_failed L.was_full settings.snapshot v (is_some settings.log) a (stopped s 0)) }
     ensures short { IfErr result (IsShort (λ s. (v : Setting) × (a : Accepted) × (i : Identity)
         × StartsFrom R.loads R.log_heads R.log_starts R.saves R.begins R.names rt.now settings.snapshot settings.log
         settings.must_load settings.numbers v i a × HasEnded (of_origin R.saves (origin i (is_some settings.log)))
-        rt.now L.was_synced settings.snapshot v (is_some settings.log) a s)) }
+        rt.now L.was_synced L.has_failed L.was_full settings.snapshot v (is_some settings.log) a s)) }
 {
     settings.judge()?;
     serve_settings::<L, R, W>(rt, alloc, settings, out)

@@ -174,8 +174,8 @@ room_behind (Err e) old new made pages left is few within = tt
 
 -- ---- a log that is seen
 
-module _ {D : Type 0} (entries : List Entry) (inside : Option (OpenLog D)) (seen : Stored D) (log : OpenLog D)
-    (view : stored entries inside ≡ seen) (is : inside ≡ Some log) where
+module _ {D : Type 0} (entries : List Entry) (inside : Option (OpenLog D)) (named : Bool) (seen : Stored D)
+    (log : OpenLog D) (view : stored entries inside named ≡ seen) (is : inside ≡ Some log) where
   pub seen_in_use : seen.in_use ≡ Some log
   seen_in_use = sym (ap (λ (s : Stored D). s.in_use) view) ∙ is
 

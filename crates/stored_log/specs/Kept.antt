@@ -1,5 +1,5 @@
 -- What contracts see of a log on a disk, what it keeps, and what its answers mean.
---     Stored                 its entries, and its file and writer, if there are such
+--     Stored                 its entries, its file and writer, if there are such, and whether it has its name
 --     is_failed, room_of, disk_of, number_of
 --                            of the log in use, if there is one: whether its disk is in doubt, its room, its disk, and
 --                            the number of its file
@@ -31,9 +31,10 @@ use Rattle.stored_log.specs.Sizes.{most_pages}
 pub record Stored (D : Type 0) : Type 0 where
   pub entries : List Entry
   pub in_use : Option (OpenLog D)
+  pub named : Bool
 
-abbrev pub stored : {D : Type 0} → List Entry → Option (OpenLog D) → Stored D
-stored entries in_use = record { entries = entries; in_use = in_use }
+abbrev pub stored : {D : Type 0} → List Entry → Option (OpenLog D) → Bool → Stored D
+stored entries in_use named = record { entries = entries; in_use = in_use; named = named }
 
 abbrev pub is_failed : {D : Type 0} → (D → Bool) → Option (OpenLog D) → Bool
 is_failed in_doubt None = true

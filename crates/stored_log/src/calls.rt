@@ -31,12 +31,14 @@ impl<D: LogDisk> StoredLog<D> {
             room_of self.new.in_use + pages_taken (values batches.now)) }
         ensures broken { OnErr result (is_failed D.in_doubt self.new.in_use ≡ true) }
         ensures told { OnErr result (HasFailed D.in_doubt D.lost_name) }
+        ensures named { self.new.named ≡ self.old.named }
         ensures file { number_of self.new.in_use ≡ number_of self.old.in_use }
     {
         let StoredLog {
             in_use,
             block,
             told,
+            is_named: _,
         } = self;
         let Some(log) = in_use else {
             unreachable!();
@@ -63,12 +65,14 @@ impl<D: LogDisk> StoredLog<D> {
         ensures full { result ≡ Err RoomFault.Full → WasFull D.failure_count }
         ensures cause { result ≡ Err RoomFault.Full →
             HasFilled D.tells D.written D.failure_count self.old.in_use self.new.in_use pages }
+        ensures named { self.new.named ≡ self.old.named }
         ensures file { number_of self.new.in_use ≡ number_of self.old.in_use }
     {
         let StoredLog {
             in_use,
             block: _,
             told: _,
+            is_named: _,
         } = self;
         let Some(log) = in_use else {
             unreachable!();

@@ -1,5 +1,5 @@
 //! What a desk asks of a log, by a log on a disk.
-ghost use Rattle.std.specs.Prelude.{◌≡◌, ◌≢◌, ◌+◌, ◌≤◌, ◌<◌, ◌++◌, length, Err, OnOk, OnErr, true, false};
+ghost use Rattle.std.specs.Prelude.{◌≡◌, ◌≢◌, ℕ, ◌+◌, ◌≤◌, ◌<◌, ◌++◌, List, length, Err, OnOk, OnErr, true, false};
 ghost use Rattle.batch_store.specs.Batches.{entries_of, values};
 ghost use Rattle.log_desk.specs.declared.fault.RoomFault.{RoomFault};
 ghost use Rattle.stored_log.specs.Kept.{is_failed, number_of, room_of, HasFailed, HasFilled, WasFull, WasSynced};
@@ -21,6 +21,8 @@ impl<D: LogDisk + Drop> Log for StoredLog<D> {
     ghost ready = { λ s. room_of s.in_use };
 
     ghost takes = { pages_taken };
+
+    ghost has_name = { λ s path. s.named ≡ true };
 
     ghost was_synced = { WasSynced D.telling D.tells D.written D.may_leave };
 
@@ -59,6 +61,7 @@ impl<D: LogDisk + Drop> Log for StoredLog<D> {
         ensures used { OnOk result (0 < length batches.now → room_of self.old.in_use ≡
             room_of self.new.in_use + pages_taken (values batches.now)) }
         ensures unused { length batches.now ≡ 0 → self.new ≡ self.old }
+        ensures named { (path : List ℕ) → self.old.named ≡ true → self.new.named ≡ true }
         ensures broken { OnErr result (is_failed D.in_doubt self.new.in_use ≡ true) }
         ensures told { OnErr result (HasFailed D.in_doubt D.lost_name) }
         ensures file { number_of self.new.in_use ≡ number_of self.old.in_use }
@@ -81,6 +84,7 @@ impl<D: LogDisk + Drop> Log for StoredLog<D> {
         ensures kept { is_failed D.in_doubt self.new.in_use ≡ false →
             room_of self.old.in_use ≤ room_of self.new.in_use }
         ensures durable { is_failed D.in_doubt self.new.in_use ≡ false → self.new.entries ≡ self.old.entries }
+        ensures named { (path : List ℕ) → self.old.named ≡ true → self.new.named ≡ true }
         ensures broken { result ≡ Err RoomFault.Failed → is_failed D.in_doubt self.new.in_use ≡ true }
         ensures told { result ≡ Err RoomFault.Failed → HasFailed D.in_doubt D.lost_name }
         ensures full { result ≡ Err RoomFault.Full → WasFull D.failure_count }

@@ -53,7 +53,7 @@ pub fn begin_stored<F: LogFolder>(
         Ok(log) => log,
         Err(fault) => return Err(StoredFault::File(fault)),
     };
-    let Ok(new) = StoredLog::new(alloc, log, list) else {
+    let Ok(new) = StoredLog::new(alloc, log, list, false) else {
         folder.remove_new();
         return Err(StoredFault::Memory);
     };
@@ -70,6 +70,7 @@ pub fn abandon_stored<F: LogFolder>(folder: &mut F, new: StoredLog<F::Disk>)
         in_use,
         block: _,
         told: _,
+        is_named: _,
     } = new;
     match in_use {
         Some(log) => abandon_rotation(folder, log),
@@ -95,7 +96,7 @@ pub fn name_stored<F: LogFolder>(
     requires failures { F.failure_count folder.old + 1 < 2 ^ 64 }
     requires works { is_failed F.Disk.in_doubt new.in_use ≡ false }
     requires made { F.tells folder.old → F.made folder.old ≡ number_of new.in_use }
-    ensures in_use { OnOk result (in_use.new ≡ new) }
+    ensures in_use { OnOk result (in_use.new ≡ record new { named = true }) }
     ensures failed { OnErr result (is_failed F.Disk.in_doubt in_use.new.in_use ≡ true) }
     ensures lost { OnErr result F.Disk.lost_name }
     ensures told { OnErr result (HasFailed F.Disk.in_doubt F.Disk.lost_name) }
@@ -112,6 +113,7 @@ pub fn name_stored<F: LogFolder>(
         in_use: log,
         block,
         told,
+        is_named: _,
     } = new;
     let Some(log) = log else {
         unreachable!();
@@ -125,6 +127,7 @@ pub fn name_stored<F: LogFolder>(
         in_use: named,
         block,
         told,
+        is_named: true,
     };
     Ok(())
 }

@@ -1,4 +1,5 @@
 pub mod AskLemmas
+pub mod PinnedLemmas
 pub mod LongLemmas
 pub mod HasTop
 pub mod TextLemmas

@@ -1,9 +1,14 @@
 -- What a store tells of itself, and its text: ASCII lines, each a name, a space, a number and LF.
 --     Telling         the setup, one status, how many of its batches are folded, and further lines
---     figure_text     a further line: between name and space may stand one or two labels in braces, each a key, =, and
---                     its value in quotation marks
+--     figure_line     a further line, without LF: between name and space may stand one or two labels in braces, each a
+--                     key, =, and its value in quotation marks
+--     pinned_names    the names of the lines of the setup and of the status; figure_text leaves out a further line that
+--                     has such a name, and one with an LF inside
 --     stats_text      the lines of all, those of the setup and of the status in front
-use Rattle.std.specs.Prelude.{ℕ, ◌+◌, ◌/◌, ◌%◌, List, [], ◌∷◌, ◌++◌, length, flat_map, codes, decimal}
+--     lines_named     the lines of a text that have a name
+use Rattle.std.specs.Prelude.{ℕ, ◌+◌, ◌/◌, ◌%◌, ◌==◌, ◌||◌, not, Bool, cond, List, [], ◌∷◌, ◌++◌, length, take, filter}
+use Rattle.std.specs.Prelude.{flat_map, codes, decimal, bytes_eq}
+use Rattle.std.specs.List.{list_any, position_or_len}
 use Rattle.batch_store.specs.Setups.{Setting}
 use Rattle.plain_engine.specs.declared.status.Status.{Status}
 use Rattle.hex.specs.Hex.{encode_lower}
@@ -41,8 +46,31 @@ labels_text NoLabel = []
 labels_text (One l) = 123 ∷ label_text l ++ 125 ∷ []
 labels_text (Two l m) = 123 ∷ label_text l ++ 44 ∷ label_text m ++ 125 ∷ []
 
+unfoldable pub figure_line : Figure → List ℕ
+figure_line f = f.name.now ++ labels_text f.labels ++ 32 ∷ amount_text f.amount
+
+abbrev pub pinned_names : List (List ℕ)
+pinned_names =
+    codes "rows" ∷ codes "cols" ∷ codes "cuts" ∷ codes "layer_cut_entries" ∷ codes "shards" ∷ codes "limit"
+    ∷ codes "max_batches" ∷ codes "batches" ∷ codes "folded" ∷ codes "total" ∷ []
+
+unfoldable pub is_pinned : List ℕ → Bool
+is_pinned name = list_any (λ pinned. bytes_eq pinned name) pinned_names
+
+-- a space or a brace
+abbrev pub ends_name : ℕ → Bool
+ends_name b = b == 32 || b == 123
+
+-- what stands before the first space or brace of a line
+abbrev pub line_name : List ℕ → List ℕ
+line_name line = take (position_or_len ends_name line) line
+
+-- whether these bytes are one line, and its name isn't pinned
+unfoldable pub is_further : List ℕ → Bool
+is_further line = not (list_any (λ b. b == 10) line || is_pinned (line_name line))
+
 unfoldable pub figure_text : Figure → List ℕ
-figure_text f = f.name.now ++ labels_text f.labels ++ 32 ∷ amount_text f.amount ++ 10 ∷ []
+figure_text f = cond (is_further (figure_line f)) (figure_line f ++ 10 ∷ []) []
 
 -- a line without labels
 unfoldable pub number_line : List ℕ → ℕ → List ℕ
@@ -79,3 +107,11 @@ figures_text figures = flat_map figure_text figures
 
 unfoldable pub stats_text : Telling → List ℕ
 stats_text t = setup_text t.setup ++ status_text t.status t.folded ++ figures_text t.figures
+
+-- the lines of a text, each without its LF, where the first begins with `front`; after the last LF is no line
+abbrev pub lines_from : List ℕ → List ℕ → List (List ℕ)
+lines_from front [] = []
+lines_from front (b ∷ rest) = cond (b == 10) (front ∷ lines_from [] rest) (lines_from (front ++ b ∷ []) rest)
+
+unfoldable pub lines_named : List ℕ → List ℕ → List (List ℕ)
+lines_named name text = filter (λ line. bytes_eq (line_name line) name) (lines_from [] text)

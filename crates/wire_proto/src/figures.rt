@@ -28,7 +28,8 @@ pub enum Labels {
     Two(Label, Label),
 }
 
-/// A line: a name of letters, digits and `_`, its labels, and its number.
+/// A line: a name of letters, digits and `_`, its labels, and its number. A line whose name the setup or the status
+/// has is left out of the text, and so is one with an end of a line inside.
 #[derive(Clone, Copy)]
 pub struct Figure {
     pub name: &'static str,

@@ -1,11 +1,12 @@
 //! Laws of the definitions.
-ghost use Rattle.std.specs.Prelude.{◌≡◌, ◌≢◌, ℕ, All, List, [], ◌∷◌, ◌++◌, map, Some, None, Ok, Err};
+ghost use Rattle.std.specs.Prelude.{◌≡◌, ◌≢◌, ℕ, All, Contains, List, [], ◌∷◌, ◌++◌, map, Some, None, Ok, Err};
 ghost use Rattle.wire_frames.specs.Frames.{Message, front, Gives, messages};
 ghost use Rattle.wire_proto.specs.CellBytes.{cells_of, spelled_cells, FitsBytes};
 ghost use Rattle.cells.specs.declared.cell.Cell.{Cell};
 ghost use Rattle.wire_proto.specs.Plain.{IsAnswered, AreAnswered, FreshPuts, GoOn, IsPut, with_batches};
 ghost use Rattle.wire_proto.specs.Plain.{IsFolded, NoneFolds};
 ghost use Rattle.wire_proto.specs.Replies.{accepted};
+ghost use Rattle.wire_proto.specs.Telling.{Telling, pinned_names, setup_text, status_text, stats_text, lines_named};
 ghost use Rattle.batch_store.specs.declared.verdict.Kept.{Kept};
 ghost use Rattle.batch_store.specs.Batches.{Submission};
 ghost use Rattle.batch_store.specs.Accepted.{Accepted};
@@ -73,4 +74,11 @@ pub fn repeats_get_their_reply()
         AreAnswered setup mid between later →
         IsAnswered setup later (Ok again ∷ []) second after → second ≡ accepted kept' →
         first ≡ second }
+{}
+
+/// Of each pinned name the text of a Stats has just the lines that the setup and the status give. No further line has
+/// such a name, whatever figures a keeper gives.
+pub fn pinned_names_have_no_further_lines()
+    ensures { (t : Telling) (name : List ℕ) → Contains pinned_names name →
+        lines_named name (stats_text t) ≡ lines_named name (setup_text t.setup ++ status_text t.status t.folded) }
 {}

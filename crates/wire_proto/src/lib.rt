@@ -25,6 +25,7 @@ mod keeper;
 mod laws;
 mod limits;
 mod long_replies;
+mod pinned;
 mod plain;
 mod questions;
 mod replies;
@@ -40,7 +41,8 @@ pub use figures::{Amount, Figure, Label, Labels};
 pub use keeper::{FoldRefusal, Keeper, PutRefusal, SaveRefusal, Settled};
 pub use laws::{
     cells_are_read_again, messages_are_answered_in_parts, messages_have_one_answer,
-    repeats_get_their_reply, sessions_accept_fresh_batches, sessions_answer_messages,
+    pinned_names_have_no_further_lines, repeats_get_their_reply, sessions_accept_fresh_batches,
+    sessions_answer_messages,
 };
 pub use plain::{PlainKeeper, serve_engine};
 pub use serving::serve;

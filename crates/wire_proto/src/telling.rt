@@ -4,12 +4,14 @@ ghost use Rattle.hex.specs.Hex.{encode_lower};
 ghost use Rattle.wire_proto.specs.Answering.{Answers, RunsOut};
 ghost use Rattle.wire_proto.specs.LongReplies.{bytes_of};
 ghost use Rattle.wire_proto.specs.Replies.{lines_reply as reply_of_lines};
-ghost use Rattle.wire_proto.specs.Telling.{amount_text, label_text, labels_text, figure_text, number_line, cut_line, cut_lines};
+ghost use Rattle.wire_proto.specs.Telling.{amount_text, label_text, labels_text, figure_line, figure_text};
+ghost use Rattle.wire_proto.specs.Telling.{number_line, cut_line, cut_lines};
 ghost use Rattle.wire_proto.specs.Telling.{setup_text, status_text, figures_text, stats_text};
 
 use crate::figures::{Amount, Figure, Label, Labels};
 use crate::keeper::Keeper;
 use crate::long_replies::start;
+use crate::pinned::is_further_line;
 use crate::questions::{Answer, refuses};
 use crate::told::Told;
 use batch_store::Setup;
@@ -88,16 +90,29 @@ fn push_labels(out: &mut Vec<u8>, labels: &Labels) -> Result<(), AllocError>
     }
 }
 
-/// Appends a line.
-#[tactic(auto, unfolding(crate::specs::Telling::figure_text))]
-fn push_figure(out: &mut Vec<u8>, figure: &Figure) -> Result<(), AllocError>
-    ensures { OnOk result (out.new.items ≡ out.old.items ++ figure_text figure.now) }
+/// Appends a line without its end.
+#[tactic(auto, unfolding(crate::specs::Telling::figure_line))]
+fn push_line(out: &mut Vec<u8>, figure: &Figure) -> Result<(), AllocError>
+    ensures { OnOk result (out.new.items ≡ out.old.items ++ figure_line figure.now) }
 {
     out.extend_from_slice(figure.name.as_bytes())?;
     push_labels(out, &figure.labels)?;
     out.extend_from_slice(b" ")?;
-    push_amount(out, &figure.amount)?;
-    out.extend_from_slice(b"\n")
+    push_amount(out, &figure.amount)
+}
+
+/// Appends a line, but none that a client could take for one of the setup or of the status.
+#[tactic(auto, unfolding(crate::specs::Telling::figure_text))]
+fn push_figure(out: &mut Vec<u8>, figure: &Figure) -> Result<(), AllocError>
+    ensures { OnOk result (out.new.items ≡ out.old.items ++ figure_text figure.now) }
+{
+    let start = out.len();
+    push_line(out, figure)?;
+    if is_further_line(&out[start..]) {
+        return out.extend_from_slice(b"\n");
+    }
+    out.truncate(start);
+    Ok(())
 }
 
 /// Appends lines.

@@ -6,7 +6,8 @@ use plain_engine::Status;
 use std::marker::Model;
 
 /// What a store tells of itself: its setup, how many batches it has accepted, how many of them are folded, and their
-/// total, as they were at one moment, and further numbers, of which nothing is proved.
+/// total, as they were at one moment, and further numbers. Of these nothing is proved but that none has the name of a
+/// line of the setup or of the status in the text.
 #[derive(Drop)]
 pub struct Told {
     pub setup: Setup,

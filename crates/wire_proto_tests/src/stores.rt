@@ -135,7 +135,8 @@ impl Keeper for Store {
     }
 }
 
-// A line of each kind of amounts and of labels.
+// A line of each kind of amounts and of labels, and three lines that are left out: two of pinned names, and one that
+// holds a line of a pinned name.
 static FIGURES: &[Figure] = &[
     Figure {
         name: "version",
@@ -186,6 +187,24 @@ static FIGURES: &[Figure] = &[
             value: Amount::Word("put"),
         }),
         amount: Amount::Count(u64::MAX),
+    },
+    Figure {
+        name: "batches",
+        labels: Labels::None,
+        amount: Amount::Count(4),
+    },
+    Figure {
+        name: "layer_cut_entries",
+        labels: Labels::One(Label {
+            key: "layer",
+            value: Amount::Count(1),
+        }),
+        amount: Amount::Count(8),
+    },
+    Figure {
+        name: "revision",
+        labels: Labels::None,
+        amount: Amount::Word("1\nbatches 4"),
     },
 ];
 
@@ -300,7 +319,7 @@ static REFUSING: &[Case] = &[
     // After the refusal come the setup, `batches 3`, `folded 2` and `total 12`, and then `version 0.1.0`,
     // `refused_total{code="30"} 7`, `shard_layer_entries{shard="0",layer="2"} 61234`, `uptime_seconds 12.034`,
     // `save_age_seconds 0.007`, `processor_seconds_total 18446744073709551.615` and
-    // `frames_total{kind="put"} 18446744073709551615`.
+    // `frames_total{kind="put"} 18446744073709551615`. No figure gives a second `batches` or `layer_cut_entries`.
     (
         (Some(PutRefusal::LogFull), Ok(0), 0),
         &[PUT, Ask::Stats],

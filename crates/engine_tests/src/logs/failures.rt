@@ -1,4 +1,6 @@
 //! A sync that fails: who waits is refused, and nobody writes to the log again.
+ghost use Rattle.std.specs.Prelude.{List};
+ghost use Rattle.batch_store.specs.declared.verdict.Entry.{Entry};
 
 use crate::logs::puts::Refusal::Desk;
 use crate::logs::puts::{NONE, Tally, UntilAdmitted, nothing, put_all, put_one, sizes};
@@ -20,7 +22,9 @@ pub fn fail_first<
     N: Named + Send + Sync,
     H: Ledger + Send + Sync,
     R: Threads + Wait + Clock + Abort + Eprint + Sync,
->(rt: &R, alloc: Global, engine: &Engine<N, H>, seats: &mut [Seat<N, H>]) {
+>(rt: &R, alloc: Global, engine: &Engine<N, H>, seats: &mut [Seat<N, H>])
+    requires { (entries : List Entry) → N.synced entries }
+{
     let admitted = AtomicU64::new(0);
     let pause = UntilAdmitted {
         rt,

@@ -1,4 +1,6 @@
 //! Groups of puts that share a sync.
+ghost use Rattle.std.specs.Prelude.{List};
+ghost use Rattle.batch_store.specs.declared.verdict.Entry.{Entry};
 
 use crate::logs::puts::{NONE, Tally, UntilAdmitted, batch_of, expect_log, nothing, put_all};
 use locked_engine::{Engine, Named, Seat};
@@ -18,7 +20,9 @@ pub fn share_a_sync<
     N: Named + Send + Sync,
     H: Ledger + Send + Sync,
     R: Threads + Wait + Clock + Abort + Eprint + Sync,
->(rt: &R, alloc: Global, engine: &Engine<N, H>, seats: &mut [Seat<N, H>]) {
+>(rt: &R, alloc: Global, engine: &Engine<N, H>, seats: &mut [Seat<N, H>])
+    requires { (entries : List Entry) → N.synced entries }
+{
     let admitted = AtomicU64::new(0);
     let pause = UntilAdmitted {
         rt,
@@ -43,7 +47,9 @@ pub fn put_many<
     N: Named + Send + Sync,
     H: Ledger + Send + Sync,
     R: Threads + Wait + Abort + Eprint + Sync,
->(rt: &R, alloc: Global, engine: &Engine<N, H>, seats: &mut [Seat<N, H>]) {
+>(rt: &R, alloc: Global, engine: &Engine<N, H>, seats: &mut [Seat<N, H>])
+    requires { (entries : List Entry) → N.synced entries }
+{
     let log = MemoryLog::new(alloc, 400, 100_000, FailAt::Never, NoPause).expect(rt, "memory");
     let first = seats.first().expect(rt, "a seat");
     let desk = LogDesk::open(alloc, log, nothing(first), first.version()).expect(rt, "memory");
@@ -63,7 +69,9 @@ pub fn pipeline<N: Named, H: Ledger, R: Wait + Abort + Eprint>(
     alloc: Global,
     engine: &Engine<N, H>,
     seats: &mut [Seat<N, H>],
-) {
+)
+    requires { (entries : List Entry) → N.synced entries }
+{
     let seat = seats.first_mut().expect(rt, "a seat");
     let log = MemoryLog::new(alloc, 16, 16, FailAt::Never, NoPause).expect(rt, "memory");
     let mut known = nothing(seat);

@@ -1,5 +1,6 @@
 //! A fresh log in the place of one that has failed.
-ghost use Rattle.std.specs.Prelude.{⊤};
+ghost use Rattle.std.specs.Prelude.{List, ⊤};
+ghost use Rattle.batch_store.specs.declared.verdict.Entry.{Entry};
 
 use crate::logs::puts::Refusal::Desk;
 use crate::logs::puts::{expect_log, expect_puts, nothing, sizes};
@@ -68,7 +69,9 @@ pub fn renew<N: Named, H: Ledger, R: Wait + Abort + Eprint>(
     alloc: Global,
     engine: &Engine<N, H>,
     seats: &mut [Seat<N, H>],
-) {
+)
+    requires { (entries : List Entry) → N.synced entries }
+{
     let seat = seats.first_mut().expect(rt, "a seat");
     let log = MemoryLog::new(alloc, 16, 16, FailAt::Append(1), NoPause).expect(rt, "memory");
     let mut known = nothing(seat);

@@ -1,4 +1,6 @@
 //! Room is promised before a batch is accepted.
+ghost use Rattle.std.specs.Prelude.{List};
+ghost use Rattle.batch_store.specs.declared.verdict.Entry.{Entry};
 
 use crate::logs::puts::Refusal::Desk;
 use crate::logs::puts::{expect_puts, nothing, sizes};
@@ -21,7 +23,9 @@ pub fn refuse<N: Named, H: Ledger, R: Wait + Abort + Eprint>(
     pages: u64,
     fail_at: FailAt,
     fault: DeskFault,
-) {
+)
+    requires { (entries : List Entry) → N.synced entries }
+{
     let seat = seats.first_mut().expect(rt, "a seat");
     let log = MemoryLog::new(alloc, 16, pages, fail_at, NoPause).expect(rt, "memory");
     let mut known = nothing(seat);
@@ -41,7 +45,9 @@ pub fn fill_up<N: Named, H: Ledger, R: Wait + Abort + Eprint>(
     alloc: Global,
     engine: &Engine<N, H>,
     seats: &mut [Seat<N, H>],
-) {
+)
+    requires { (entries : List Entry) → N.synced entries }
+{
     let seat = seats.first_mut().expect(rt, "a seat");
     let log = MemoryLog::new(alloc, 16, 3, FailAt::Never, NoPause).expect(rt, "memory");
     let mut known = nothing(seat);

@@ -41,6 +41,8 @@ impl Log for TestLog {
 
     ghost takes = { λ list. length list };
 
+    ghost has_name = { λ l path. ⊤ };
+
     ghost was_synced = { λ entries. ⊤ };
 
     ghost has_failed = { ⊤ };

@@ -1,5 +1,7 @@
 //! Pools of workers that share a log, which is begun anew beside their puts.
-ghost use Rattle.std.specs.Prelude.{◌≡◌};
+ghost use Rattle.std.specs.Prelude.{◌≡◌, List, is_some, true};
+ghost use Rattle.batch_store.specs.declared.verdict.Entry.{Entry};
+ghost use Rattle.session_pool.specs.Saves.{path_of};
 ghost use Rattle.locked_engine.specs.Opened.{NamesEngine};
 
 use crate::logged::frames::Ask;
@@ -48,6 +50,9 @@ fn play<
     requires named { NamesEngine names N.setup N.seats N.history N.name N.parts H.name H.parts }
     requires made_from { plain.setup ≡ names.setup }
     requires opened { plain.book.state ≡ N.opened }
+    requires path { path_of saver.now.log ≡ N.log }
+    requires logged { is_some N.log ≡ true }
+    requires word { (entries : List Entry) → N.synced entries }
 {
     let (engine, mut seats) = opened::<N, H>(rt, alloc, plain, names);
     let first = seats.first().expect(rt, "a seat");
@@ -85,7 +90,9 @@ fn played<R: Threads + Wait + Disk + Machine + LogPlace<TestLog> + RandomSource 
     rt: &R,
     alloc: Global,
     saver: &Saver,
-) -> Outcome {
+) -> Outcome
+    requires { is_some (path_of saver.now.log) ≡ true }
+{
     let mut links = Vec::new(alloc);
     for number in 0..20u8 {
         let asks = [Ask::Put(7, number, 1), Ask::Fold, Ask::Save];

@@ -1,5 +1,7 @@
 //! Engines that are opened with a log, serve a session, and are closed.
-ghost use Rattle.std.specs.Prelude.{◌≡◌, []};
+ghost use Rattle.std.specs.Prelude.{◌≡◌, List, [], Some};
+ghost use Rattle.batch_store.specs.declared.verdict.Entry.{Entry};
+ghost use Rattle.session_pool.specs.Saves.{path_of};
 ghost use Rattle.locked_engine.specs.Opened.{NamesEngine};
 
 use crate::logged::frames::{Ask, frames};
@@ -62,6 +64,8 @@ fn play_named<N: Named, H: Ledger, R: Wait + Disk + Machine + LogPlace<TestLog> 
     requires named { NamesEngine names N.setup N.seats N.history N.name N.parts H.name H.parts }
     requires made_from { plain.setup ≡ names.setup }
     requires opened { plain.book.state ≡ N.opened }
+    requires path { N.log ≡ Some case.now.path.now }
+    requires word { (entries : List Entry) → N.synced entries }
 {
     let (engine, mut seats) = opened::<N, H>(rt, alloc, plain, names);
     let seat = seats.first_mut().expect(rt, "a seat");
@@ -92,7 +96,9 @@ pub fn link_of(rt: &impl Abort, alloc: Global, pieces: &[&[Ask]]) -> Script {
 }
 
 /// A saver to this path, which begins the log under that one anew.
-pub fn saver_to(rt: &impl Abort, alloc: Global, path: &str, log: &str) -> Saver {
+pub fn saver_to(rt: &impl Abort, alloc: Global, path: &str, log: &str) -> Saver
+    ensures { path_of result.log ≡ Some log.now }
+{
     let path = path.to_string(alloc).expect(rt, "memory");
     let log = log.to_string(alloc).expect(rt, "memory");
     Saver::new(Some(path)).with_log(Some(log))
@@ -105,7 +111,10 @@ fn serve_case<'x, N: Named, H: Ledger, R: Wait + Disk + Machine + LogPlace<TestL
     engine: &'x Engine<N, H>,
     seat: &'x mut Seat<N, H>,
     case: &Case,
-) -> Found {
+) -> Found
+    requires path { N.log ≡ Some case.now.path.now }
+    requires word { (entries : List Entry) → N.synced entries }
+{
     let mut link = link_of(rt, alloc, case.pieces);
     assert!(rt; Sink::failures(&link) == 0);
     let log = MemoryLog::new(alloc, 100, case.pages, case.fail_at, NoPause).expect(rt, "memory");

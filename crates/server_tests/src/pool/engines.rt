@@ -1,7 +1,8 @@
 //! Engines that are opened, serve sessions by a pool or one after another, and are closed.
-ghost use Rattle.std.specs.Prelude.{◌≡◌};
+ghost use Rattle.std.specs.Prelude.{◌≡◌, None};
 ghost use Rattle.batch_store.specs.Accepted.{entries_in};
 ghost use Rattle.locked_engine.specs.Opened.{NamesEngine};
+ghost use Rattle.session_pool.specs.Saves.{path_of};
 
 use batch_store::Setup;
 use byte_io::{Link, Script, Sink};
@@ -130,6 +131,8 @@ fn pooled<
     requires named { NamesEngine names N.setup N.seats N.history N.name N.parts H.name H.parts }
     requires made_from { plain.setup ≡ names.setup }
     requires opened { plain.book.state ≡ N.opened }
+    requires path { path_of saver.now.log ≡ N.log }
+    requires unlogged { N.log ≡ None }
 {
     let (engine, mut seats) = opened::<N, H>(rt, alloc, plain, names);
     let desk: Option<LogDesk<N, FileLog>> = None;
@@ -170,7 +173,9 @@ pub fn found_over<
     saver: &Saver,
     links: Vec<Script>,
     compactors: u64,
-) -> Found {
+) -> Found
+    requires { path_of saver.now.log ≡ None }
+{
     let sessions = queued(rt, alloc, links);
     let (plain, names) = unopened(rt, alloc, seats);
     let found = pooled::<Brand, Brand, G, R>(
@@ -191,9 +196,11 @@ fn serve_link<N: Named, H: Ledger, L: Link, R: Wait + Disk + Machine + LogPlace<
     seat: &mut Seat<N, H>,
     link: &mut L,
     compactor: Option<&Sender<()>>,
-) -> After {
+) -> After
+    requires { N.log ≡ None }
+{
     assert!(rt; Sink::failures(link) == 0);
-    let saver = Saver::new(None);
+    let saver = Saver::new(None).with_log(None);
     let log: Option<SessionLog<'_, N, FileLog>> = None;
     let mut keeper = SeatKeeper::new(rt, engine, seat, &saver, log, compactor);
     let ended = serve(alloc, link, &mut keeper, 1 << 40);
@@ -232,6 +239,7 @@ fn served_in_turn<
     requires named { NamesEngine names N.setup N.seats N.history N.name N.parts H.name H.parts }
     requires made_from { plain.setup ≡ names.setup }
     requires opened { plain.book.state ≡ N.opened }
+    requires unlogged { N.log ≡ None }
 {
     let (engine, mut seats) = opened::<N, H>(rt, alloc, plain, names);
     let seat = seats.first_mut().expect(rt, "a seat");

@@ -26,7 +26,7 @@ fn sums_and_folds_beside_puts_change_no_count(rt: HostRuntime) {
         served: 100,
     };
     for (above, kind, compactors, [least, most]) in ROWS {
-        let saver = Saver::new(None).folding_above(*above);
+        let saver = Saver::new(None).with_log(None).folding_above(*above);
         let links = links(&rt, rt.alloc(), *kind, 100);
         let found = found_over(&rt, rt.alloc(), 4, &OpenGate, &saver, links, *compactors);
         drop(saver);

@@ -1,4 +1,5 @@
 use Rattle.std.proofs.Common.{◌+◌}
+use Rattle.std.specs.Prelude.{None, ⊤}
 use Rattle.engine_tests.proofs.cases.play_on.Given as goal
 
 -- the engine that these names name
@@ -11,6 +12,8 @@ ghosts-closed_after-N-Named g a = record {
   seats = a.names.seats;
   history = a.names.history;
   opened = a.plain.book.state;
+  log = None;
+  synced = λ entries. ⊤;
 }
 
 abbrev pub ghosts-closed_after-H-Ledger : goal.ghosts-closed_after-H-Ledger

@@ -6,14 +6,14 @@ pub returns-clause-same_reference : goal.returns-clause-same_reference
 returns-clause-same_reference g c =
     if_ok_on c.read_log.result c.read_log.ensures.ok (λ file read.
     same_name read.end.answers read.end.calls (λ s. s.disk.ghost_name) (λ s. s.disk.now) (λ s. s.at) (λ s. s.end)
-    g.D.LogDisk.tells g.D.LogDisk.written g.D.LogDisk.may_leave g.D.LogDisk.moment g.D.LogDisk.left_since
+    g.D.LogDisk
     (λ s answer t h. h))
 
 pub returns-clause-same : goal.returns-clause-same
 returns-clause-same g c = λ told.
     if_ok_on c.read_log.result c.read_log.ensures.ok (λ file read.
     as_before read.end.answers read.end.calls (λ s. s.disk.ghost_name) (λ s. s.disk.now) (λ s. s.at) (λ s. s.end)
-    g.D.LogDisk.tells g.D.LogDisk.written g.D.LogDisk.may_leave g.D.LogDisk.moment g.D.LogDisk.left_since
+    g.D.LogDisk
     (λ s answer t h. h) told)
 
 pub returns-clause-ok : goal.returns-clause-ok
@@ -26,7 +26,7 @@ returns-clause-ok g c =
       λ told long.
           sym read.end.bytes_are
           ∙ read_whole read.end.answers read.end.calls (λ s. s.disk.ghost_name) (λ s. s.disk.now) (λ s. s.at) (λ s. s.end)
-          g.D.LogDisk.tells g.D.LogDisk.written g.D.LogDisk.may_leave g.D.LogDisk.moment g.D.LogDisk.left_since
+          g.D.LogDisk
           (λ s answer t h. h) told c.requires.begins read.end.at_end long,
     ))
 
@@ -41,8 +41,7 @@ returns-clause-err g c =
           source.page_is long.0,
           λ told.
               let most = read_within source.failed.answers source.failed.calls (λ s. s.disk.ghost_name) (λ s. s.disk.now) (λ s. s.at)
-              (λ s. s.end) g.D.LogDisk.tells g.D.LogDisk.written g.D.LogDisk.may_leave g.D.LogDisk.moment
-              g.D.LogDisk.left_since (λ s answer t h. h) told c.requires.begins c.read_log.new.r.within in
+              (λ s. s.end) g.D.LogDisk (λ s answer t h. h) told c.requires.begins c.read_log.new.r.within in
               omega (arith, most, long.1),
         )))
       ]
@@ -52,7 +51,7 @@ returns-clause-err g c =
         λ told long.
             sym wrong.end.bytes_are
             ∙ read_whole wrong.end.answers wrong.end.calls (λ s. s.disk.ghost_name) (λ s. s.disk.now) (λ s. s.at) (λ s. s.end)
-            g.D.LogDisk.tells g.D.LogDisk.written g.D.LogDisk.may_leave g.D.LogDisk.moment g.D.LogDisk.left_since
+            g.D.LogDisk
             (λ s answer t h. h) told c.requires.begins wrong.end.at_end long,
       )))
     ])

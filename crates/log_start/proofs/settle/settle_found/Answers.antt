@@ -8,7 +8,7 @@ settle-requires g c κs within = (
   (
     λ t.
         let told = c.requires.1.0 t in
-        can_settle g.D.LogDisk.written g.D.LogDisk.may_leave g.D.LogDisk.moment g.D.LogDisk.left_since
+        can_settle g.D.LogDisk
         c.args.file.disk g.kept.0 g.kept.1 told.1 c.args.log.now told.0,
     (c.requires.1.1.1.0, (c.requires.1.1.1.1, (let few = c.requires.1.1.0 in omega (arith, few)))),
   ),
@@ -17,7 +17,7 @@ settle-requires g c κs within = (
 pub returns-in-Ok-clause-settled : goal.returns-in-Ok-clause-settled
 returns-in-Ok-clause-settled g c = λ t.
     let told = c.requires.1.0 t in
-    settled_as g.D.LogDisk.written g.D.LogDisk.may_leave g.D.LogDisk.moment g.D.LogDisk.left_since c.args.file.disk
+    settled_as g.D.LogDisk c.args.file.disk
     g.kept.0 g.kept.1 told.1 c.settle.new.disk c.in-Ok.writer (c.in-Ok.ensures.settled t)
 
 pub returns-in-Ok-clause-goes_on : goal.returns-in-Ok-clause-goes_on

@@ -11,10 +11,9 @@ use Rattle.log_start.proofs.start.start_from.Goals as goal
 
 pub returns-in-Err-clause-why : goal.returns-in-Err-clause-why
 returns-in-Err-clause-why g c =
-    file_refused g.F.Disk.LogDisk.tells g.F.Disk.LogDisk.written g.F.Disk.LogDisk.may_leave g.F.Disk.LogDisk.moment
-    g.F.Disk.LogDisk.left_since g.F.Disk.LogDisk.failure_count g.F.Disk.LogDisk.in_doubt c.args.found.file.disk
-    c.args.found.length g.kept.0 g.kept.1 c.args.setup.now c.args.owner.now c.args.known _ _ c.in-Err.fault c.fault_of_log.result
-    c.fault_of_log.ensures.memory c.fault_of_log.ensures.other c.in-Err.ensures.err
+    file_refused g.F.Disk.LogDisk c.args.found.file.disk c.args.found.length g.kept.0 g.kept.1 c.args.setup.now
+    c.args.owner.now c.args.known _ _ c.in-Err.fault c.fault_of_log.result c.fault_of_log.ensures.memory
+    c.fault_of_log.ensures.other c.in-Err.ensures.err
 
 pub returns-then-log-count_of-clause-list : goal.returns-then-log-count_of-clause-list
 returns-then-log-count_of-clause-list g c =
@@ -54,8 +53,7 @@ settle_found-requires g c κs within =
         λ t.
             let tells = c.requires.1.1.0 c.read_found.new.disk t in
             let told = c.requires.1.1.1.0 tells in
-            found_again g.F.Disk.LogDisk.tells g.F.Disk.LogDisk.written g.F.Disk.LogDisk.may_leave
-            g.F.Disk.LogDisk.moment g.F.Disk.LogDisk.left_since c.args.found.file.disk c.read_found.new.disk
+            found_again g.F.Disk.LogDisk c.args.found.file.disk c.read_found.new.disk
             g.kept.0 g.kept.1 (c.in-Ok.ensures.same told.0)
             (g.met.F.Disk.LogDisk.only_now c.args.found.file.disk) c.in-Ok.log ok.0 ok.1
             (ok.2 told.0 told.1) told.2,
@@ -73,8 +71,7 @@ returns-in-Ok-settle_found-clause-log g c =
       λ tells.
           let told = c.requires.1.1.1.0 tells in
           let kept = c.in-Ok.ensures.same told.0 in
-          settled_again g.F.Disk.LogDisk.tells g.F.Disk.LogDisk.written g.F.Disk.LogDisk.may_leave
-          g.F.Disk.LogDisk.moment g.F.Disk.LogDisk.left_since c.args.found.file.disk c.read_found.new.disk
+          settled_again g.F.Disk.LogDisk c.args.found.file.disk c.read_found.new.disk
           g.kept.0 g.kept.1 kept
           (g.met.F.Disk.LogDisk.only_now c.args.found.file.disk) c.in-Ok.log ok.0 found
           (ok.2 told.0 told.1) told.2 c.in-Ok-settle_found.in_use.file.disk c.in-Ok-settle_found.in_use.writer
@@ -86,8 +83,7 @@ returns-in-Ok-settle_found-clause-file g c = λ tells.
     let ok = c.in-Ok.ensures.ok in
     let told = c.requires.1.1.1.0 tells in
     let kept = c.in-Ok.ensures.same told.0 in
-    inr (goes_again g.F.Disk.LogDisk.tells g.F.Disk.LogDisk.written g.F.Disk.LogDisk.may_leave
-    g.F.Disk.LogDisk.moment g.F.Disk.LogDisk.left_since c.args.found.file.disk c.read_found.new.disk
+    inr (goes_again g.F.Disk.LogDisk c.args.found.file.disk c.read_found.new.disk
     g.kept.0 g.kept.1 kept
     (g.met.F.Disk.LogDisk.only_now c.args.found.file.disk) c.in-Ok.log ok.0 ok.1
     (ok.2 told.0 told.1) told.2 c.in-Ok-settle_found.in_use.file.disk
@@ -105,8 +101,7 @@ returns-clause-why g c =
       any_moment = λ t.
           let told = c.requires.1.1.1.0 (c.requires.1.1.0 c.args.found.file.disk t) in
           let kept = c.in-Ok.ensures.same t in
-          fails_again g.F.Disk.LogDisk.tells g.F.Disk.LogDisk.written g.F.Disk.LogDisk.may_leave
-          g.F.Disk.LogDisk.moment g.F.Disk.LogDisk.left_since c.args.found.file.disk c.read_found.new.disk
+          fails_again g.F.Disk.LogDisk c.args.found.file.disk c.read_found.new.disk
           g.kept.0 g.kept.1 kept (g.met.F.Disk.LogDisk.only_now c.args.found.file.disk) c.in-Ok.log ok.0 ok.1
           (ok.2 told.0 told.1) told.2 failed.0 (failed.2 kept.told).1;
     }))))

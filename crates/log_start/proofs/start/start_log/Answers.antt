@@ -27,9 +27,8 @@ returns-clause-why g c =
         file.length,
         λ tells. let told = if_some_at _ c.in-Ok-Some.field-0 file c.in-Ok-Some.field-0-is (c.in-Ok-Some.ensures.found tells)
             in (told.0, told.2),
-        subst (λ (n : ℕ). RefusesFound g.F.Disk.LogDisk.tells g.F.Disk.LogDisk.written g.F.Disk.LogDisk.may_leave
-            g.F.Disk.LogDisk.moment g.F.Disk.LogDisk.left_since g.F.Disk.LogDisk.failure_count g.F.Disk.LogDisk.in_doubt
-            file.file.disk file.length g.kept.0 g.kept.1 c.args.setup.now c.args.owner.now c.args.known n
-            (g.F.LogFolder.failure_count c.start_from.new.folder) fault) c.in-Ok-Some.ensures.no_failure why,
+        subst (λ (n : ℕ). RefusesFound g.F.Disk.LogDisk file.file.disk file.length g.kept.0 g.kept.1
+            c.args.setup.now c.args.owner.now c.args.known n (g.F.LogFolder.failure_count c.start_from.new.folder) fault)
+            c.in-Ok-Some.ensures.no_failure why,
       )),
     ))

@@ -1,4 +1,5 @@
 use Rattle.std.proofs.Common.{◌+◌}
+use Rattle.std.specs.Prelude.{None, ⊤}
 use Rattle.refuse_growths.proofs.locked.run_with.Given as goal
 
 -- the engine that these names name
@@ -11,6 +12,8 @@ ghosts-run_named-N-Named g a = record {
   seats = a.names.seats;
   history = a.names.history;
   opened = a.plain.book.state;
+  log = None;
+  synced = λ entries. ⊤;
 }
 
 abbrev pub ghosts-run_named-H-Ledger : goal.ghosts-run_named-H-Ledger

@@ -4,8 +4,8 @@ use Rattle.batch_store.specs.Books.{accepted_in}
 use Rattle.socket_server.proofs.file_log.start_untold.Goals as goal
 
 -- the log's batches stand behind the known ones, and nothing was folded
-pub returns-in-Ok-new-clause-later : goal.returns-in-Ok-new-clause-later
-returns-in-Ok-new-clause-later g c =
+pub returns-in-Ok-of_start-clause-later : goal.returns-in-Ok-of_start-clause-later
+returns-in-Ok-of_start-clause-later g c =
     let told = c.in-Ok.ensures in
     record {
       entries = told.begins;

@@ -10,10 +10,12 @@ pub returns-clause-ended : goal.returns-clause-ended
 returns-clause-ended g c =
     let saves = of_origin g.R.Disk.saves c.args.plan.saver.origin in
     let synced = g.L.Log.was_synced in
+    let failed = g.L.Log.has_failed in
+    let full = g.L.Log.was_full in
     let path = c.args.plan.saver.path in
     let opened = g.N.Named.opened in
-    subst (λ (b : Bool). IfOk c.serve_bound.result (HasEnded saves c.args.rt.now synced path c.args.names.setup b opened))
+    subst (λ (b : Bool). IfOk c.serve_bound.result (HasEnded saves c.args.rt.now synced failed full path c.args.names.setup b opened))
     c.in-Ok.ensures.has_log
     (subst (λ (v : Setting). IfOk c.serve_bound.result
-    (HasEnded saves c.args.rt.now synced path v (is_some c.in-Ok.opened.log) opened)) (sym c.requires.named.setup_is)
+    (HasEnded saves c.args.rt.now synced failed full path v (is_some c.in-Ok.opened.log) opened)) (sym c.requires.named.setup_is)
     c.serve_bound.ensures.ended)

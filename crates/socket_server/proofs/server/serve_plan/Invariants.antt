@@ -1,4 +1,5 @@
 use Rattle.std.proofs.Common.{◌+◌}
+use Rattle.session_pool.specs.Saves.{path_of}
 use Rattle.socket_server.proofs.server.serve_plan.Given as goal
 
 -- the engine that these names name
@@ -11,6 +12,8 @@ ghosts-serve_named-N-Named g a = record {
   seats = a.names.seats;
   history = a.names.history;
   opened = a.start.plain.book.state;
+  log = path_of a.plan.saver.log;
+  synced = g.L.Log.was_synced;
 }
 
 abbrev pub ghosts-serve_named-H-Ledger : goal.ghosts-serve_named-H-Ledger

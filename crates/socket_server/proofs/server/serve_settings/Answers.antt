@@ -20,18 +20,20 @@ returns-clause-ended g c =
     let told = c.in_ok-start.ensures in
     let saves = g.R.Disk.saves in
     let synced = g.L.Log.was_synced in
+    let failed = g.L.Log.has_failed in
+    let full = g.L.Log.was_full in
     let h = c.args.rt.now in
     let log = is_some c.in_ok-start.start.log in
     let own = origin i (is_some c.args.settings.log) in
     let v = c.in_ok-start.start.plain.setup in
     IfOk-weaker c.serve_plan.result _ _ (λ s e. (v, a, i, told.start, e))
     (subst (λ (b : Bool). IfOk c.serve_plan.result
-    (λ s. HasEnded (of_origin saves own) h synced c.args.settings.snapshot v b a (stopped s 0)))
+    (λ s. HasEnded (of_origin saves own) h synced failed full c.args.settings.snapshot v b a (stopped s 0)))
     told.has_log
     (subst (λ (p : Option (String _)). IfOk c.serve_plan.result
-    (λ s. HasEnded (of_origin saves own) h synced p v log a (stopped s 0))) c.plan_of-plan.ensures.path
+    (λ s. HasEnded (of_origin saves own) h synced failed full p v log a (stopped s 0))) c.plan_of-plan.ensures.path
     (subst (λ (o : Origin). IfOk c.serve_plan.result
-    (λ s. HasEnded (of_origin saves o) h synced c.plan_of-plan.result.saver.path v log a
+    (λ s. HasEnded (of_origin saves o) h synced failed full c.plan_of-plan.result.saver.path v log a
     (stopped s 0))) c.plan_of-plan.ensures.origin
     c.serve_plan.ensures.ended)))
 
@@ -43,23 +45,25 @@ returns-clause-short g c =
     let told = c.in_ok-start.ensures in
     let saves = g.R.Disk.saves in
     let synced = g.L.Log.was_synced in
+    let failed = g.L.Log.has_failed in
+    let full = g.L.Log.was_full in
     let h = c.args.rt.now in
     let log = is_some c.in_ok-start.start.log in
     let own = origin i (is_some c.args.settings.log) in
     let v = c.in_ok-start.start.plain.setup in
     short_weaker c.serve_plan.result
-    (HasEnded (of_origin saves own) h synced c.args.settings.snapshot v (is_some c.args.settings.log) a)
+    (HasEnded (of_origin saves own) h synced failed full c.args.settings.snapshot v (is_some c.args.settings.log) a)
     (λ s. (w : Setting) × (x : Accepted) × (j : Identity) × StartsFrom g.R.Host.loads g.R.LogHost.log_heads
     g.R.LogHost.log_starts g.R.Disk.saves g.R.LogPlace.begins g.R.LogPlace.names h c.args.settings.snapshot
     c.args.settings.log c.args.settings.must_load c.args.settings.numbers w j x
-    × HasEnded (of_origin saves (origin j (is_some c.args.settings.log))) h synced c.args.settings.snapshot w
+    × HasEnded (of_origin saves (origin j (is_some c.args.settings.log))) h synced failed full c.args.settings.snapshot w
     (is_some c.args.settings.log) x s)
     (λ s e. (v, a, i, told.start, e))
     (subst (λ (b : Bool). IfErr c.serve_plan.result
-    (IsShort (HasEnded (of_origin saves own) h synced c.args.settings.snapshot v b a))) told.has_log
+    (IsShort (HasEnded (of_origin saves own) h synced failed full c.args.settings.snapshot v b a))) told.has_log
     (subst (λ (p : Option (String _)). IfErr c.serve_plan.result
-    (IsShort (HasEnded (of_origin saves own) h synced p v log a))) c.plan_of-plan.ensures.path
+    (IsShort (HasEnded (of_origin saves own) h synced failed full p v log a))) c.plan_of-plan.ensures.path
     (subst (λ (o : Origin). IfErr c.serve_plan.result
-    (IsShort (HasEnded (of_origin saves o) h synced c.plan_of-plan.result.saver.path v log a)))
+    (IsShort (HasEnded (of_origin saves o) h synced failed full c.plan_of-plan.result.saver.path v log a)))
     c.plan_of-plan.ensures.origin
     c.serve_plan.ensures.short)))

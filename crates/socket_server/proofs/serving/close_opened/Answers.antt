@@ -6,7 +6,7 @@ use Rattle.locked_engine.specs.Told.{AreShown}
 use Rattle.locked_engine.specs.Views.{SeatView}
 use Rattle.session_pool.specs.Saves.{of_origin}
 use Rattle.socket_server.specs.Ends.{HasEnded, stopped}
-use Rattle.socket_server.proofs.EndLaws.{stored_by}
+use Rattle.socket_server.proofs.EndLaws.{stored_by, whole_unless}
 use Rattle.socket_server.proofs.SeatLaws.{written_back}
 use Rattle.socket_server.proofs.serving.close_opened.Goals as goal
 
@@ -14,7 +14,7 @@ use Rattle.socket_server.proofs.serving.close_opened.Goals as goal
 pub returns-in_default-clause-ended : goal.returns-in_default-clause-ended
 returns-in_default-clause-ended g c =
     let h = c.in_ok-status.ensures.ended in
-    subst (λ (b : Bool). HasEnded (of_origin g.R.Disk.saves c.args.saver.now.origin) c.args.rt.now g.L.Log.was_synced c.args.saver.now.path g.N.Named.setup b
+    subst (λ (b : Bool). HasEnded (of_origin g.R.Disk.saves c.args.saver.now.origin) c.args.rt.now g.L.Log.was_synced g.L.Log.has_failed g.L.Log.was_full c.args.saver.now.path g.N.Named.setup b
     g.N.Named.opened (stopped c.in_ok-status.status 0))
     (sym (ap is_some c.in_default.is)) (h.0, h.2, h.3, ap (λ (n : Status). stopped n 0) h.4)
 
@@ -29,13 +29,17 @@ returns-clause-ended g c =
     let seats = written_back old.len c.learn.new.seats old.items has long in
     let h = c.in_ok-accepted.ensures.ended in
     let shown = subst (λ (l : List SeatView). AreShown l (entries_in h.0)) seats h.1.shown in
-    subst (λ (b : Bool). HasEnded (of_origin g.R.Disk.saves c.args.saver.now.origin) c.args.rt.now g.L.Log.was_synced c.args.saver.now.path g.N.Named.setup b
+    subst (λ (b : Bool). HasEnded (of_origin g.R.Disk.saves c.args.saver.now.origin) c.args.rt.now g.L.Log.was_synced g.L.Log.has_failed g.L.Log.was_full c.args.saver.now.path g.N.Named.setup b
     g.N.Named.opened c.stopped_with.result)
     (sym (ap is_some c.in-Some.is)) (
       h.0,
       h.2,
       h.3,
-      stored_by g.L.Log.was_synced c.args.saver.now.path g.N.Named.opened h.0 c.learn.new.self c.stopped_with.result
-          c.in_ok-accepted.accepted c.status-durable.result (told.synced, told.opened, told.within (entries_in h.0) shown) h.4
+      stored_by g.L.Log.was_synced g.L.Log.has_failed g.L.Log.was_full c.args.saver.now.path g.N.Named.opened h.0 c.learn.new.self c.stopped_with.result
+          c.in_ok-accepted.accepted c.status-durable.result (told.synced, told.opened, told.within (entries_in h.0) shown)
+          (whole_unless g.L.Log.has_failed g.L.Log.was_full h.0 c.learn.new.self c.write_rest-end.result
+          c.in_ok-accepted.accepted c.status-durable.result (told.within (entries_in h.0) shown) h.4
+          c.status-durable.ensures c.if-not-is_whole.ensures c.write_rest-end.ensures.failed
+          c.write_rest-end.ensures.full) h.4
           c.status-durable.ensures c.stopped_with.ensures.saved c.stopped_with.ensures.logged,
     )

@@ -1,5 +1,5 @@
 use Rattle.std.proofs.Common.{◌∙◌, sym, refl, arith, rules}
-use Rattle.log_file.proofs.Filling.{fill_synced, room_behind, still_settled, still_read, on_ok, room_is_long, long_synced, room_more}
+use Rattle.log_file.proofs.Filling.{fill_synced, room_behind, still_settled, on_ok, room_is_long, long_synced, room_more}
 use Rattle.log_file.proofs.writer.LogWriter.make_room.Goals as goal
 
 pub fill_pages-requires : goal.fill_pages-requires
@@ -21,9 +21,7 @@ returns-then-is_err-clause-settled g c = λ premise. let t = (c.requires.1.0 pre
     c.fill_pages.new.disk _ refl refl refl (c.fill_pages.ensures.stays premise)
 
 pub returns-then-is_err-clause-any_moment : goal.returns-then-is_err-clause-any_moment
-returns-then-is_err-clause-any_moment g c = λ premise. let t = (c.requires.1.0 premise).0 in still_read g.D.LogDisk.written g.D.LogDisk.may_leave
-    g.D.LogDisk.moment g.D.LogDisk.left_since c.args.disk.now g.log c.args.self.now (c.requires.1.0 premise).1
-    c.fill_pages.new.disk (c.fill_pages.ensures.stays premise)
+returns-then-is_err-clause-any_moment g c = λ premise. let run = c.fill_pages.ensures.stays premise in run.moments
 
 pub returns-then-is_err-2-clause-settled : goal.returns-then-is_err-2-clause-settled
 returns-then-is_err-2-clause-settled g c = λ premise. let t = (c.requires.1.0 premise).0 in still_settled g.D.LogDisk.written g.D.LogDisk.may_leave
@@ -34,12 +32,13 @@ returns-then-is_err-2-clause-settled g c = λ premise. let t = (c.requires.1.0 p
     (c.sync.ensures.time (c.fill_pages.ensures.tells t)))
 
 pub returns-then-is_err-2-clause-any_moment : goal.returns-then-is_err-2-clause-any_moment
-returns-then-is_err-2-clause-any_moment g c = λ premise. let t = (c.requires.1.0 premise).0 in still_read g.D.LogDisk.written g.D.LogDisk.may_leave
-    g.D.LogDisk.moment g.D.LogDisk.left_since c.args.disk.now g.log c.args.self.now (c.requires.1.0 premise).1 c.sync.new.self
-    (fill_synced g.D.LogDisk.written g.D.LogDisk.may_leave g.D.LogDisk.moment g.D.LogDisk.left_since c.args.disk.now
-    g.log c.fill_pages.new.disk c.sync.new.self (c.fill_pages.ensures.stays premise)
+returns-then-is_err-2-clause-any_moment g c = λ premise.
+    let t = (c.requires.1.0 premise).0 in
+    let run = fill_synced g.D.LogDisk.written g.D.LogDisk.may_leave g.D.LogDisk.moment g.D.LogDisk.left_since
+    c.args.disk.now g.log c.fill_pages.new.disk c.sync.new.self (c.fill_pages.ensures.stays premise)
     (c.sync.ensures.same (c.fill_pages.ensures.tells t)) (c.sync.ensures.crash (c.fill_pages.ensures.tells t))
-    (c.sync.ensures.time (c.fill_pages.ensures.tells t)))
+    (c.sync.ensures.time (c.fill_pages.ensures.tells t)) in
+    run.moments
 
 pub returns-clause-settled : goal.returns-clause-settled
 returns-clause-settled g c = λ premise. let t = (c.requires.1.0 premise).0 in still_settled g.D.LogDisk.written g.D.LogDisk.may_leave g.D.LogDisk.moment
@@ -50,12 +49,13 @@ returns-clause-settled g c = λ premise. let t = (c.requires.1.0 premise).0 in s
     (c.sync.ensures.time (c.fill_pages.ensures.tells t)))
 
 pub returns-clause-any_moment : goal.returns-clause-any_moment
-returns-clause-any_moment g c = λ premise. let t = (c.requires.1.0 premise).0 in still_read g.D.LogDisk.written g.D.LogDisk.may_leave g.D.LogDisk.moment
-    g.D.LogDisk.left_since c.args.disk.now g.log c.args.self.now (c.requires.1.0 premise).1 c.sync.new.self
-    (fill_synced g.D.LogDisk.written g.D.LogDisk.may_leave g.D.LogDisk.moment g.D.LogDisk.left_since c.args.disk.now
-    g.log c.fill_pages.new.disk c.sync.new.self (c.fill_pages.ensures.stays premise)
+returns-clause-any_moment g c = λ premise.
+    let t = (c.requires.1.0 premise).0 in
+    let run = fill_synced g.D.LogDisk.written g.D.LogDisk.may_leave g.D.LogDisk.moment g.D.LogDisk.left_since
+    c.args.disk.now g.log c.fill_pages.new.disk c.sync.new.self (c.fill_pages.ensures.stays premise)
     (c.sync.ensures.same (c.fill_pages.ensures.tells t)) (c.sync.ensures.crash (c.fill_pages.ensures.tells t))
-    (c.sync.ensures.time (c.fill_pages.ensures.tells t)))
+    (c.sync.ensures.time (c.fill_pages.ensures.tells t)) in
+    run.moments
 
 pub returns-clause-written : goal.returns-clause-written
 returns-clause-written g c = λ t some.

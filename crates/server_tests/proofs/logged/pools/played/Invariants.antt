@@ -1,4 +1,6 @@
 use Rattle.std.proofs.Common.{◌+◌}
+use Rattle.std.specs.Prelude.{⊤}
+use Rattle.session_pool.specs.Saves.{path_of}
 use Rattle.server_tests.proofs.logged.pools.played.Given as goal
 
 -- the engine that these names name
@@ -11,6 +13,8 @@ ghosts-play-N-Named g a = record {
   seats = a.names.seats;
   history = a.names.history;
   opened = a.plain.book.state;
+  log = path_of a.saver.now.log;
+  synced = λ entries. ⊤;
 }
 
 abbrev pub ghosts-play-H-Ledger : goal.ghosts-play-H-Ledger

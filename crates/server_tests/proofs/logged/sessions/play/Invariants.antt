@@ -1,4 +1,5 @@
 use Rattle.std.proofs.Common.{◌+◌}
+use Rattle.std.specs.Prelude.{Some, ⊤}
 use Rattle.server_tests.proofs.logged.sessions.play.Given as goal
 
 -- the engine that these names name
@@ -11,6 +12,8 @@ ghosts-play_named-N-Named g a = record {
   seats = a.names.seats;
   history = a.names.history;
   opened = a.plain.book.state;
+  log = Some a.case.now.path.now;
+  synced = λ entries. ⊤;
 }
 
 abbrev pub ghosts-play_named-H-Ledger : goal.ghosts-play_named-H-Ledger

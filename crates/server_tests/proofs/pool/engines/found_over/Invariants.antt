@@ -1,4 +1,5 @@
 use Rattle.std.proofs.Common.{◌+◌}
+use Rattle.std.specs.Prelude.{None, ⊤}
 use Rattle.server_tests.proofs.pool.engines.found_over.Given as goal
 
 -- the engine that these names name
@@ -11,6 +12,8 @@ ghosts-pooled-N-Named g a = record {
   seats = a.names.seats;
   history = a.names.history;
   opened = a.plain.book.state;
+  log = None;
+  synced = λ entries. ⊤;
 }
 
 abbrev pub ghosts-pooled-H-Ledger : goal.ghosts-pooled-H-Ledger

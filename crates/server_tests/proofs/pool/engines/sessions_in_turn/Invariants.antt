@@ -1,4 +1,5 @@
 use Rattle.std.proofs.Common.{◌+◌}
+use Rattle.std.specs.Prelude.{None, ⊤}
 use Rattle.server_tests.proofs.pool.engines.sessions_in_turn.Given as goal
 
 -- the engine that these names name
@@ -11,6 +12,8 @@ ghosts-served_in_turn-N-Named g a = record {
   seats = a.names.seats;
   history = a.names.history;
   opened = a.plain.book.state;
+  log = None;
+  synced = λ entries. ⊤;
 }
 
 abbrev pub ghosts-served_in_turn-H-Ledger : goal.ghosts-served_in_turn-H-Ledger

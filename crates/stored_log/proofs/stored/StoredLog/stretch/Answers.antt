@@ -8,8 +8,8 @@ make_ready-requires g c κs within =
     let disk = g.D.LogDisk in
     let log = c.in-Some.log in
     let es = c.self.inside.told.entries in
-    let works = works_now es c.self.inside.in_use c.args.self.now log c.self.view_is c.in-Some.is disk.in_doubt
-    c.requires.working in
+    let works = works_now es c.self.inside.in_use c.self.inside.is_named c.args.self.now log c.self.view_is c.in-Some.is
+    disk.in_doubt c.requires.working in
     let kept = kept_now (IsKept disk.telling disk.tells disk.written disk.may_leave disk.in_doubt disk.failure_count es)
     c.self.inside.in_use log c.in-Some.is c.self.invariant.0 in (
       search rules,
@@ -25,8 +25,8 @@ invariant_of-self g c =
     let disk = g.D.LogDisk in
     let log = c.in-Some.log in
     let es = c.self.inside.told.entries in
-    let works = works_now es c.self.inside.in_use c.args.self.now log c.self.view_is c.in-Some.is disk.in_doubt
-    c.requires.working in
+    let works = works_now es c.self.inside.in_use c.self.inside.is_named c.args.self.now log c.self.view_is c.in-Some.is
+    disk.in_doubt c.requires.working in
     let kept = kept_now (IsKept disk.telling disk.tells disk.written disk.may_leave disk.in_doubt disk.failure_count es)
     c.self.inside.in_use log c.in-Some.is c.self.invariant.0 in
     let ready = c.make_ready.ensures in (
