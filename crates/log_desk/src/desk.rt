@@ -47,8 +47,8 @@ impl<N: Named, L: Log> Model for LogDesk<N, L> {
 }
 
 impl<N: Named, L: Log> LogDesk<N, L> {
-    /// A desk at a log whose entries are durable, and that has the name by which the next start finds it. `seen` is any version of the book that the log is of. It takes all
-    /// memory that groups need: 8 KiB.
+    /// A desk at a log whose entries are durable. The log has the name by which the next start finds it. `seen` is any
+    /// version of the log's book. It takes all memory that groups need: 8 KiB.
     ///
     /// # Errors
     ///
