@@ -11,6 +11,7 @@ status is 1 where one fails.
 import collections
 import csv
 import ipaddress
+import json
 import os
 import re
 import shlex
@@ -172,6 +173,13 @@ def order_of(cell):
 
 # What each command is to write, as a query over the events of the samples, and how a line of it is written.
 QUERIES = {
+    "top rows 5 --prefix": ("select case when instr(source, ':') then rtrim(source, '0123456789abcdef') || '/48' else "
+                            "rtrim(source, '0123456789') || '0/24' end, count(*), sum(count) from cells group by 1 "
+                            "order by 3 desc", "%s %s %s"),
+    "top rows 5 --in": ("select rtrim(source, '0123456789') || '0/24', count(*), sum(count) from cells where source "
+                        "like '10.%' group by 1 order by 3 desc", '{"row": "%s", "entries": %s, "total": %s}'),
+    "top cols 2 --rows": ("select destination, count(*), sum(count) from cells where source like '10.1.2.%' group by 1 "
+                          "order by 3 desc, 1 limit 2", "%s %s %s"),
     "top rows 4": ("select source, count(*), sum(count) from cells group by 1 order by 3 desc limit 4", "%s %s %s"),
     "row 10.1.2.0/24": ("select count(*), sum(count) from cells where source like '10.1.2.%'", "entries %s total %s"),
     "list 10.1.2.0/24": ("select * from cells where source like '10.1.2.%'",
@@ -193,8 +201,8 @@ def the_second_hour_is_right(folder, section):
         print("not tried: the export as Parquet: there is no pyarrow")
     os.remove(os.path.join(folder, "served"))
     written, error, status = walked(folder, [command for command, _ in told])
-    notes = ["row sa, column da, count ipkt", "count orig_pkts", "4 of the names in six.names", "degrees come by"]
-    check("the second hour", (status, [it in error for it in notes], len(error.splitlines())), (0, [True] * 4, 4))
+    notes = ["row sa, column da, count ipkt", "count orig_pkts", "4 of the names in six.names"]
+    check("the second hour", (status, [it in error for it in notes], len(error.splitlines())), (0, [True] * 3, 3))
     table, left = events_of_samples(), dict(QUERIES)
     for (command, shown), got in zip(told, written):
         check(f"as the document shows it: {command}", got, shown)
@@ -215,6 +223,35 @@ def the_second_hour_is_right(folder, section):
     check("by awk", int(summed) + 1204 + 1, of_zeek)
 
 
+def the_notebook_is_right(folder, section):
+    """The lines of the notebook run in one, each as a cell, and show tables and a picture."""
+    python = python_with("nbconvert", "ipykernel")
+    if python is None:
+        print("not tried: the notebook: there is no nbconvert")
+        return
+    [block] = re.findall(r"^```python\n(.*?)^```$", section, re.M | re.S)
+    has = {"to_arrow": ("pyarrow", "pandas"), "to_scipy": ("numpy", "scipy.sparse")}
+    lines = [line for line in block.splitlines()
+             if all(name not in line or python_with(*modules) == python for name, modules in has.items())]
+    cells = [{"cell_type": "code", "metadata": {}, "source": line, "outputs": [], "execution_count": None}
+             for line in lines]
+    with open(os.path.join(folder, "two.ipynb"), "w") as file:
+        json.dump({"cells": cells, "metadata": {}, "nbformat": 4, "nbformat_minor": 4}, file)
+    found = {**os.environ, "PYTHONPATH": PYTHON}
+    with server.Server(["--snapshot", os.path.join(folder, "two.snap")], tcp=False) as at:
+        os.symlink(at.path, os.path.join(folder, "two.sock"))
+        ended = subprocess.run([python, "-m", "nbconvert", "--to", "html", "--execute", "two.ipynb"], cwd=folder,
+                               env=found, capture_output=True, text=True, timeout=WAIT)
+    check("the notebook", (ended.returncode, ended.stderr if ended.returncode else ""), (0, ""))
+    shown = re.sub(r"\s+", "", content(os.path.join(folder, "two.html")))
+    networks = [("10.1.2.0/24", 5, 2414), ("172.16.5.0/24", 1, 410), ("10.1.1.0/24", 3, 295),
+                ("2001:db8:1::/48", 3, 49)]
+    rows = "".join("<tr><td>%s</td><td>%d</td><td>%d</td></tr>" % it for it in networks)
+    check("the notebook: networks", f"<tbody>{rows}</tbody>" in shown, True)
+    check("the notebook: a row", f"<td>{(10 << 24) + (1 << 16) + 516}</td><td>2</td><td>2410</td>" in shown, True)
+    check("the notebook: a picture", "Occupiedcells:12in" in shown, True)
+
+
 def all_are_tried():
     folder = server.FOLDER
     own_commands(folder)
@@ -223,6 +260,7 @@ def all_are_tried():
     the_walk_is_right(folder, document)
     pictures_are_there(folder, document)
     the_second_hour_is_right(folder, second)
+    the_notebook_is_right(folder, second)
 
 
 if __name__ == "__main__":

@@ -14,14 +14,18 @@ import random
 import re
 import shutil
 import signal
+import sqlite3
 import struct
 import subprocess
 import sys
 
 import server
 import hhm_command  # (server.py has put the client's folder on the path)
-from hhm_client import Client
-from hhm_words import Words
+from hhm_ask import top_table
+from hhm_blocks import Block
+from hhm_client import Client, Ended
+from hhm_groups import first_of, sums_of_cols, sums_of_rows
+from hhm_words import Span, Words
 from clients import build
 from peers import WAIT, Driver, Liar, Proxy, run
 from server import Server, check
@@ -74,6 +78,11 @@ def worked_answers(name, command):
             ("top 1 3", "0,2,8 1,1,8 2,1,0"),
             ("top 0 100", "0,2,8 1,1,8 2,1,0"),
             ("top 0 0", "refused: BadCount"),
+            ("groups 0 10 1 0 2", "0,3,16 1,1,0"),
+            ("groups 0 1 1 1 2", "0,1,8"),
+            ("groups 1 9 0 0 2", "0,2,8 1,1,8 2,1,0"),
+            ("groups 0 9 0 0 3", "refused: OutOfRange"),
+            ("groups 0 9 64 0 2", "refused: BadCount"),
             ("status", "batches 1 total 16"),
         ]:
             check(f"{name}: {question}", driver.ask(*question.split()), wanted)
@@ -83,7 +92,7 @@ def worked_answers(name, command):
             # (a comma stands between two labels too)
             told = dict(re.findall(r"([a-z_]+(?:\{[^}]*\})?) ([^,]*)", driver.ask("stats")))
             numbers = ("rows", "cols", "batches", "folded", "total", "version", 'frames_total{kind="top"}', 'refused_total{code="44"}')
-            check(f"{name}: stats", [told.get(number) for number in numbers], ["3", "3", "1", "0", "16", "0.1.0", "4", "2"])
+            check(f"{name}: stats", [told.get(number) for number in numbers], ["3", "3", "1", "0", "16", "0.1.0", "4", "3"])
         for question, wanted in [("fold", "folded 1"), ("cell 1 1", "8"), ("range 0 2 0 2 3", "0,0,5 0,2,3 1,1,8 2,1,0"),
                                  ("fold", "folded 1"), ("status", "batches 1 total 16")]:  # fmt: skip
             check(f"{name}: {question}, folded", driver.ask(*question.split()), wanted)
@@ -107,6 +116,10 @@ def drawn_answers(name, command):
                 check(f"{name}: range {bounds}", driver.ask("range", *bounds, page), threes(body[1:]))
             for by, most in [(0, 1), (0, 100), (1, 50), (1, 5000)]:
                 check(f"{name}: top {by} {most}", driver.ask("top", by, most), threes(rows_of_top(cells, by, most)))
+            for by, most, shift, first, last in [(0, 100, 8, 0, 1 << 19), (1, 5000, 4, 77, 77), (0, 7, 12, 1000, 1 << 20)]:
+                within = {(row >> shift, (row, col)): count for (row, col), count in cells.items() if first <= row <= last}
+                check(f"{name}: groups {shift} {first}", driver.ask("groups", by, most, shift, first, last),
+                      threes(rows_of_top(within, by, most)))
             check(f"{name}: lost", proxy.how_often, 4)
 
 
@@ -195,8 +208,9 @@ def the_command_line_asks():
             ("fold", ("folded 1\n", "", 0)), ("top rows 1", ("7 1 50\n", "", 0)),
         ]:
             check(f"hhmc {words}", hhmc(at, *words.split()), wanted)
-        for words in ["top", "top both", "top rows 0", "top rows x", "list", "list 7 --limit 0", "stats 1", "fold 1",
-                      "cell 1", "row", "degrees both", "top rows --json --csv"]:
+        for words in ["top", "top both", "top rows 0", "top rows --ip 0", "top rows 3 --ip 4", "top rows --ip 3 4",
+                      "top rows x", "list", "list 7 --limit 0", "stats 1", "fold 1", "cell 1", "row", "degrees both",
+                      "top rows --json --csv"]:
             output, error, status = hhmc(at, *words.split())
             check(f"hhmc {words}", (output, error.startswith("usage: "), status), ("", True, 2))
         with at.client() as hhm:
@@ -242,9 +256,15 @@ def words_of_rows_are_one():
             ("row 10.0.0.0/8", ("entries 3 total 8\n", "", 0)), ("row 10.0.0.1", ("entries 2 total 7\n", "", 0)),
             ("row 7", ("entries 1 total 4\n", "", 0)), ("cell 10.0.0.1 192.0.0.2", ("2\n", "", 0)),
             ("cell 10.0.0.1 7", ("none\n", "", 0)), ("cell 7 8", ("4\n", "", 0)),
-            ("degrees", ("1 1 3\n2 3 1\n", told, 0)), ("degrees cols", ("1 1 3\n2 3 1\n", told, 0)),
+            ("degrees", ("1 1 3\n2 3 1\n", "", 0)), ("degrees cols", ("1 1 3\n2 3 1\n", told, 0)),
+            ("degrees rows --in 10.0.0.0/8", ("1 1 1\n2 3 1\n", "", 0)),
+            ("degrees rows --in 10.0.0.0/8 --cols 192.0.0.1", ("1 1 2\n", "", 0)),
+            ("degrees cols --in 192.0.0.0/30", ("1 1 1\n2 3 1\n", "", 0)),
             ("list x", ("", "'x' isn't a number, A-B, an address, a network or, by --names, a name\n", 2)),
             ("list 9-7", ("", "9-7: the first is after the last\n", 2)),
+            (f"cell 7 {1 << 64}", ("", f"{1 << 64}: rows and columns are from 0 to {(1 << 60) - 1}\n", 2)),
+            (f"list 7-{1 << 64}", ("", f"7-{1 << 64}: rows and columns are from 0 to {(1 << 60) - 1}\n", 2)),
+            (f"cell 7 {(1 << 64) - 1}", ("", "refused: OutOfRange\n", 1)),
             ("cell 10.0.0.0/8 7", ("", "10.0.0.0/8: one row or column is wanted, and these are several\n", 2)),
             ("row ::1", ("", "::1: IPv6 addresses have their numbers by a table: give --ip --names TABLE\n", 2)),
             ("list 7 --names /nowhere/a", ("", "/nowhere/a: No such file or directory\n", 4)),
@@ -252,38 +272,137 @@ def words_of_rows_are_one():
             check(f"words: {words}", hhmc(at, *words.split()), wanted)
 
 
+def networks_lead():
+    """Rows and columns of a network, and networks in place of addresses, by hand; and what no prefix is."""
+    ten, other = 10 << 24, 192 << 24
+    cells = [(ten + 1, other + 1, 5), (ten + 1, other + 2, 2), (ten + 300, other + 1, 1), (other, ten + 1, 9),
+             (7, 8, 4)]
+    rows = "networks lead by a scan of all cells, which takes a while where there are many\n"
+    more = "an IPv4 address has 32 bits, and one of IPv6 128: give both as 24,48\n"
+    with Server(LARGE, tcp=False) as at:
+        with at.client(8) as hhm:
+            hhm.put(1, cells)
+        for words, wanted in [
+            ("rows --in 10.0.0.0/8", ("10.0.0.1 2 7\n10.0.1.44 1 1\n", "", 0)),
+            ("rows 1 --in 10.0.0.0/8 --by entries", ("10.0.0.1 2 7\n", "", 0)),
+            ("rows --in 11.0.0.0/8", ("", "", 0)), ("rows --in 0-9", ("7 1 4\n", "", 0)),
+            ("rows --in 0-9 --ip", ("0.0.0.7 1 4\n", "", 0)), ("rows --rows 7", ("7 1 4\n", "", 0)),
+            ("rows --cols 192.0.0.1", ("10.0.0.1 1 5\n10.0.1.44 1 1\n", "", 0)),
+            ("cols --in 192.0.0.0/8", ("192.0.0.1 2 6\n192.0.0.2 1 2\n", "", 0)),
+            ("cols --rows 10.0.0.1", ("192.0.0.1 1 5\n192.0.0.2 1 2\n", "", 0)),
+            ("rows --prefix 24", ("192.0.0.0/24 1 9\n10.0.0.0/24 2 7\n0.0.0.0/24 1 4\n10.0.1.0/24 1 1\n", "", 0)),
+            ("rows --prefix 8 --by entries", ("10.0.0.0/8 3 8\n0.0.0.0/8 1 4\n192.0.0.0/8 1 9\n", "", 0)),
+            ("rows --prefix 0", ("0.0.0.0/0 5 21\n", "", 0)), ("rows 1 --prefix 32", ("192.0.0.0/32 1 9\n", "", 0)),
+            ("rows --prefix 24 --in 10.0.0.0/16", ("10.0.0.0/24 2 7\n10.0.1.0/24 1 1\n", "", 0)),
+            ("rows --prefix 24 --in 10.0.0.0/31", ("10.0.0.0/24 2 7\n", "", 0)),
+            ("rows --prefix 24 --cols 192.0.0.1", ("10.0.0.0/24 1 5\n10.0.1.0/24 1 1\n", "", 0)),
+            ("cols 2 --prefix 31", ("10.0.0.0/31 1 9\n192.0.0.0/31 2 6\n", rows, 0)),
+            ("cols --prefix 8 --rows 10.0.0.0/24 --json",
+             ('{"column": "192.0.0.0/8", "entries": 2, "total": 7}\n', "", 0)),
+            ("rows --prefix 33", ("", f"--prefix 33: {more}", 2)),
+            ("rows --prefix 24,129", ("", f"--prefix 24,129: {more}", 2)),
+            ("rows --prefix x", ("", "--prefix 'x' is no number of bits as 24, and no two as 24,48\n", 2)),
+            ("rows --in 10.0.0.0/8 1", ("10.0.0.1 2 7\n", "", 0)),
+            ("rows --in 7 --rows 8", ("", "--in is --rows of the rows: leave one of them out\n", 2)),
+        ]:
+            check(f"top {words}", hhmc(at, "top", *words.split()), wanted)
+        tops_are_tables(at)
+
+
+def tops_are_tables(at):
+    """The same in a program, as for a notebook."""
+    with at.client() as hhm:
+        table = top_table(hhm, "cols", 1, within="192.0.0.0/8", prefix=31)
+        check("a table", (table.names, table), (("column", "entries", "total"), [("192.0.0.0/31", 2, 6)]))
+        shown = "<td>192.0.0.0/31</td><td>2</td><td>6</td>"
+        check("a table in a notebook", shown in table._repr_html_(), True)
+        for options, why in [({"fix": 8}, TypeError), ({"prefix": "x"}, Ended), ({"within": "x"}, Ended)]:
+            try:
+                check(f"a table by {options}", top_table(hhm, "rows", 1, **options), why)
+            except (TypeError, Ended) as fault:
+                check(f"a table by {options}", type(fault), why)
+
+
+def drawn_networks_lead():
+    """Drawn cells, in pages that end amid rows and networks, compared with SQL over the cells."""
+    dice = random.Random(11)
+    hosts = [(dice.randrange(3) << 24) + (dice.randrange(4) << 8) + dice.randrange(256) for _ in range(300)]
+    drawn = {(dice.choice(hosts), dice.choice(hosts)): dice.randrange(90) for _ in range(3000)}
+    table = sqlite3.connect(":memory:")
+    table.execute("create table cells (row integer, col integer, count integer)")
+    table.executemany("insert into cells values (?, ?, ?)", [(*place, count) for place, count in drawn.items()])
+    within = [Span(5, (1 << 24) + 700), Span(2 << 24, (2 << 24) + 300)]
+    inside = " or ".join(f"{{0}} between {span.first} and {span.last}" for span in within)
+    with Server(LARGE, tcp=False) as at, at.client(8) as hhm:
+        hhm.put(1, [(*place, count) for place, count in drawn.items()])
+        for axis, other in (("row", "col"), ("col", "row")):
+            for by in ("total", "entries"):
+                for shift, page in ((0, 7), (8, 7), (8, 1), (24, 1000)):
+                    block = Block(within, None) if axis == "row" else Block(None, within)
+                    parts = block.of_server(hhm, page)
+                    sums = sums_of_rows(parts, shift) if axis == "row" else sums_of_cols(
+                        parts, lambda col, shift=shift: col >> shift << shift)
+                    order = 3 if by == "total" else 2
+                    query = (f"select {axis} >> {shift} << {shift}, count({other}), sum(count) from cells where "
+                             f"{inside.format(axis)} group by 1 order by {order} desc, 1 limit 20")
+                    check(f"networks: {axis} by {by}, {shift}, pages of {page}",
+                          [tuple(it) for it in first_of(sums, 20, by)], table.execute(query).fetchall())
+
+
 def names_are_shown():
     """Rows by a table of names, and addresses of IPv6 by a table, in questions and in answers."""
-    hosts, six = (os.path.join(server.FOLDER, name) for name in ("hosts.names", "six.names"))
-    with open(hosts, "w") as file:
-        file.write("www\nmail-1\n10.0.0.9\n2001:db8::9\nhalf")
-    with open(six, "w") as file:
-        file.write("2001:db8:1::7\nfe80::1\n2001:db8:2::53\n")
     first, cells = 1 << 32, [(0, 1, 5), (2, 0, 1), (3, 3, 2), (9, 9, 7)]
     with Server(["--rows", str(1 << 33), "--cols", str(1 << 33)], tcp=False) as at:
         with at.client(8) as hhm:
             hhm.put(1, [*cells, (first, first + 2, 30), (first + 2, first + 1, 20), (10 << 24, first, 10)])
-        for words, wanted in [
-            ("top rows 4", ("2001:db8:1::7 1 30\n2001:db8:2::53 1 20\n10.0.0.0 1 10\n0.0.0.9 1 7\n", "", 0)),
-            ("list 2001:db8::/32", ("2001:db8:1::7 2001:db8:2::53 30\n2001:db8:2::53 fe80::1 20\n",
-                                    f"2001:db8::/32: 2 of the names in {six}\n", 0)),
-            ("range --cols 2001:db8::/32", ("10.0.0.0 2001:db8:1::7 10\n2001:db8:1::7 2001:db8:2::53 30\n",
-                                            f"2001:db8::/32: 2 of the names in {six}\n", 0)),
-            ("cell 2001:DB8:1:0::7 2001:db8:2::53", ("30\n", "", 0)),
-            ("row 2001:db8::/32", ("entries 2 total 50\n", f"2001:db8::/32: 2 of the names in {six}\n", 0)),
-            ("row ff00::/8", ("entries 0 total 0\n", f"ff00::/8: 0 of the names in {six}\n", 0)),
-            ("row ::5", ("", f"{six} has no ::5\n", 2)),
-        ]:
-            check(f"IPv6: {words}", hhmc(at, *words.split(), "--ip", "--names", six), wanted)
-        for words, wanted in [
-            ("range --rows 0-9", ("www mail-1 5\n10.0.0.9 www 1\n2001:db8::9 2001:db8::9 2\n9 9 7\n", "", 0)),
-            ("list www", ("www mail-1 5\n", "", 0)), ("row mail-1", ("entries 0 total 0\n", "", 0)),
-            ("list 10.0.0.0/8", ("10.0.0.9 www 1\n", f"10.0.0.0/8: 1 of the names in {hosts}\n", 0)),
-            ("cell www mail-1", ("5\n", "", 0)), ("list half", ("", f"{hosts} has no 'half'\n", 2)),
-            ("cell www 1 --json", ('{"row": "www", "column": "mail-1", "count": 5}\n', "", 0)),
-            ("range --rows 3-9 --csv", ("row,column,count\n2001:db8::9,2001:db8::9,2\n9,9,7\n", "", 0)),
-        ]:
-            check(f"names: {words}", hhmc(at, *words.split(), "--names", hosts), wanted)
+        addresses_of_a_table_are_shown(at)
+        names_of_a_table_are_shown(at)
+
+
+def table_of(name, content):
+    path = os.path.join(server.FOLDER, name)
+    with open(path, "w") as file:
+        file.write(content)
+    return path
+
+
+def addresses_of_a_table_are_shown(at):
+    six = table_of("six.names", "2001:db8:1::7\nfe80::1\n2001:db8:2::53\n")
+    for words, wanted in [
+        ("top rows 4", ("2001:db8:1::7 1 30\n2001:db8:2::53 1 20\n10.0.0.0 1 10\n0.0.0.9 1 7\n", "", 0)),
+        ("list 2001:db8::/32", ("2001:db8:1::7 2001:db8:2::53 30\n2001:db8:2::53 fe80::1 20\n",
+                                f"2001:db8::/32: 2 of the names in {six}\n", 0)),
+        ("range --cols 2001:db8::/32", ("10.0.0.0 2001:db8:1::7 10\n2001:db8:1::7 2001:db8:2::53 30\n",
+                                        f"2001:db8::/32: 2 of the names in {six}\n", 0)),
+        ("cell 2001:DB8:1:0::7 2001:db8:2::53", ("30\n", "", 0)),
+        ("row 2001:db8::/32", ("entries 2 total 50\n", f"2001:db8::/32: 2 of the names in {six}\n", 0)),
+        ("row ff00::/8", ("entries 0 total 0\n", f"ff00::/8: 0 of the names in {six}\n", 0)),
+        ("top rows --prefix 24,48", ("2001:db8:1::/48 1 30\n2001:db8:2::/48 1 20\n0.0.0.0/24 4 15\n"
+                                     "10.0.0.0/24 1 10\n", "", 0)),
+        ("top rows 1 --prefix 24", ("2001:db8:1::/64 1 30\n", "", 0)),
+        ("top rows --in 2001:db8::/32 --prefix 32", ("2001:db8::/32 2 50\n",
+                                                     f"2001:db8::/32: 2 of the names in {six}\n", 0)),
+        ("top cols --in 2001:db8::/32 --prefix 48", ("2001:db8:2::/48 1 30\n2001:db8:1::/48 1 10\n",
+                                                     f"2001:db8::/32: 2 of the names in {six}\n", 0)),
+        ("degrees --in 2001:db8::/32", ("1 1 2\n", f"2001:db8::/32: 2 of the names in {six}\n", 0)),
+        ("row ::5", ("", f"{six} has no ::5\n", 2)),
+    ]:
+        check(f"IPv6: {words}", hhmc(at, *words.split(), "--ip", "--names", six), wanted)
+
+
+def names_of_a_table_are_shown(at):
+    hosts = table_of("hosts.names", "www\nmail-1\n10.0.0.9\n2001:db8::9\nhalf")
+    for words, wanted in [
+        ("range --rows 0-9", ("www mail-1 5\n10.0.0.9 www 1\n2001:db8::9 2001:db8::9 2\n9 9 7\n", "", 0)),
+        ("list www", ("www mail-1 5\n", "", 0)), ("row mail-1", ("entries 0 total 0\n", "", 0)),
+        ("list 10.0.0.0/8", ("10.0.0.9 www 1\n", f"10.0.0.0/8: 1 of the names in {hosts}\n", 0)),
+        ("cell www mail-1", ("5\n", "", 0)), ("list half", ("", f"{hosts} has no 'half'\n", 2)),
+        ("top rows --rows 0-9 --prefix 8,32", ("9 1 7\nwww 1 5\n2001:db8::/32 1 2\n10.0.0.0/8 1 1\n", "", 0)),
+        ("top rows --in www", ("www 1 5\n", "", 0)),
+        ("cell www 1 --json", ('{"row": "www", "column": "mail-1", "count": 5}\n', "", 0)),
+        ("range --rows 3-9 --csv", ("row,column,count\n2001:db8::9,2001:db8::9,2\n9,9,7\n", "", 0)),
+    ]:
+        check(f"names: {words}", hhmc(at, *words.split(), "--names", hosts), wanted)
 
 
 def a_table_grows():
@@ -323,6 +442,10 @@ def answers_have_forms():
             check("range", asked("range", "--rows", "7", "--json")[0],
                   '{"row": 7, "column": 8, "count": 4}\n{"row": 7, "column": 9, "count": 5}\n')
             check("list", asked("list", "10.0.0.0/8"), (f"10.0.0.0 0.0.0.1 {1 << 60}\n", "", 0))
+            check("networks", asked("top", "rows", "--prefix", "8"),
+                  (f"10.0.0.0/8 1 {1 << 60}\n0.0.0.0/8 2 9\n", "", 0))
+            check("columns of a row", asked("top", "cols", "1", "--rows", "7"), ("9 1 5\n", "", 0))
+            check("degrees of a row", asked("degrees", "--in", "7"), ("2 3 1\n", "", 0))
             check("degrees", asked("degrees", "cols", "--json")[::2], ('{"from": 1, "to": 1, "cols": 3}\n', 0))
         check("no columns by a file", of_file("top", "cols", "1"), (f"1 1 {1 << 60}\n", "", 0))
         check("no server", run([*PLAIN, "top", "rows"])[2], 2)
@@ -358,6 +481,22 @@ def every_help_has_statuses():
         check(f"hhmc {name} --help", "Statuses: 0; 1 where the server refused;" in word.format_help(), True)
 
 
+def only_what_is_named_is_loaded():
+    """A question doesn't wait for the modules of other commands; and the help of each has all of them."""
+    with Server(["--rows", "3", "--cols", "3"], tcp=False) as at:
+        script = "import sys, hhm_client; hhm_client.main(); print(*(it for it in sys.modules if it[:4] == 'hhm_'))"
+        ended = run([sys.executable, "-c", script, "--unix", at.path, "status"],
+                    env={**os.environ, "PYTHONPATH": PYTHON})
+        loaded = set(ended[0].splitlines()[-1].split())
+        check("loaded", (loaded & {"hhm_load", "hhm_plot", "hhm_metrics"}, "hhm_ask" in loaded), (set(), True))
+    whole = run([*PLAIN, "--help"])
+    for words in [["--help", "load"], ["-h", "save"]]:
+        check(f"hhmc {words}", run([*PLAIN, *words]), whole)
+    names = set(re.findall(r"^    ([a-z]+)(?: |$)", whole[0], re.M))
+    wanted = {*hhm_command.MODULES, *hhm_command.QUESTIONS, *hhm_command.PLAIN}
+    check("commands of the help", (names, whole[2]), (wanted, 0))
+
+
 def on_terminal(words):
     """What a program writes on a terminal."""
     process, terminal = pty.fork()
@@ -384,11 +523,14 @@ def all_are_tried():
         what_is_no_reply_is_told(name, command)
     the_command_line_asks()
     words_of_rows_are_one()
+    networks_lead()
+    drawn_networks_lead()
     names_are_shown()
     a_table_grows()
     answers_have_forms()
     a_reader_that_has_gone()
     every_help_has_statuses()
+    only_what_is_named_is_loaded()
 
 
 if __name__ == "__main__":

@@ -167,6 +167,17 @@ def other_ways_to_a_text():
         check("gzip", load(at, 300, packed), ("new 1 repeats 0 events 300\n", "", 0))
         cut = written("cut.csv.gz", gzip.compress(text)[:-20])
         check("gzip that is cut short", load(at, 301, cut)[2], 4)
+        spoilt = bytearray(gzip.compress(text))
+        spoilt[len(spoilt) // 2] ^= 255
+        file = written("spoilt.csv.gz", bytes(spoilt))
+        output, error, status = load(at, 305, file)
+        told = error.startswith(f"{file}: ") and error.endswith(": nothing was sent; load again with the same words\n")
+        check("gzip that is spoilt", (output, status, error if not told else ""), ("", 4, ""))
+        file = written("no.csv.gz", text)
+        check("no gzip", load(at, 306, file)[1:],
+              (f"{file}: Not a gzipped file (b'so'): nothing was sent; load again with the same words\n", 4))
+        file = written("head.csv.gz", gzip.compress(text)[:12])
+        check("gzip without a line", load(at, 307, file)[2], 4)
         with open(written("plain.csv", text)) as file:
             told = ("standard input: its first 300 events were loaded as client 300 too: where that was into this "
                     "server, they count twice\n")
@@ -554,7 +565,11 @@ def several_values_go_to_servers():
             of_bytes.process.kill()
             of_bytes.process.wait()
             output, error, status = hhmc("--attempts", 1, "load", *values, "--batch", 100, 621, file)
-            check("a server of two is gone", (output, status), ("", 4))
+            wanted = f"failed: {of_bytes.path}: "
+            check("a server of two is gone", (output, error.startswith(wanted), status), ("", True, 4))
+            nobody = hhmc("--tcp", "127.0.0.1:9", "--attempts", 1, "load", 622, file)
+            wanted = "failed: 127.0.0.1:9: Connection refused: nothing was sent; load again with the same words\n"
+            check("no server", nobody, ("", wanted, 4))
         os.rename(other, at.path)
 
 

@@ -8,6 +8,7 @@ import time
 
 import browser
 import server
+from hhm_client import Client
 from server import Server, check
 from stand_in import OTHERWISE, StandIn, knows_stats
 
@@ -21,7 +22,8 @@ TOLD = {
     "sessions_waiting": 1, "sessions_total": 99, "workers": 4, "resident_bytes": 231_400_000, "uptime_seconds": "3725.5",
     "saves_total": 2, "failed_saves_total": 1, "saved_batches": 0, "save_age_seconds": "61.2", "log_durable_batches": 7,
     "log_pages": 12, "log_room_pages": 4096, "log_syncs_total": 8, "log_group_batches": 3, "<b>odd</b>": 1,
-    "received_bytes_total": 1_500_000, "sent_bytes_total": 2_000,
+    "received_bytes_total": 1_500_000, "sent_bytes_total": 2_000, "log_failed": 1,
+    "limit": (1 << 64) - 1, "max_batches": 1000,
     **{f'shard_layer_entries{{shard="{shard}",layer="{layer}"}}': 1000 * shard + layer
        for shard in range(12) for layer in range(3)},
     **{f'shard_layer_runs{{shard="{shard}",layer="{layer}"}}': shard for shard in range(12) for layer in range(3)},
@@ -92,10 +94,11 @@ def what_is_told_is_shown(page, metrics_of):
         check("shown: tiles", page.value(TILES), SHOWN)
         small = page.value("[...document.querySelectorAll('#tiles small')].map((it) => it.textContent)")
         for words in ["NumberReused 2, IndexOutOfRange 3,000", "1 waiting, 99 served, 4 workers",
-                      "0 batches since, 2 saves, 1 failed", "12 pages, 4,096 ready, 8 syncs, 3 in the last group"]:
+                      "0 batches since, 2 saves, 1 failed",
+                      "12 pages, 4,096 ready, 8 syncs, 3 in the last group, the log has failed"]:
             check(f"shown: {words}", words in small, True)
-        bad = "[...document.querySelectorAll('#tiles .bad dt')].map((it) => it.textContent)"
-        check("shown: what is wrong", page.value(bad), ["Refused", "Sessions", "Last save"])
+        bad = "[...document.querySelectorAll('#tiles .bad dt')].map((it) => it.textContent).join(' ')"
+        check("shown: what is wrong", page.value(bad), "Sessions Last save Durable")
         for number, words, title in [("895912345678", "895.9 G", "895,912,345,678"), ("999999999", "999,999,999", None),
                                      ("'18446744073709551615'", "18.4 E", "18,446,744,073,709,551,615")]:
             briefly = f"[brief({number}).textContent, brief({number}).getAttribute('title')]"
@@ -110,6 +113,10 @@ def what_is_told_is_shown(page, metrics_of):
         check("shown: all", {name: found[name] for name in wanted}, wanted)
         check("shown: pictures", page.until("document.querySelectorAll('section:not([hidden]) svg').length >= 4"), True)
         pictures_have_tables(page)
+        at.stats = {**TOLD, 'refused_total{code="30"}': 3, "saves_total": 3}
+        check("shown: a refusal and a save", page.until(f"{bad} === 'Refused Sessions Durable'"), True)
+        at.stats = {**TOLD, 'refused_total{code="30"}': 3, "saves_total": 3, "failed_saves_total": 2}
+        check("shown: a save that failed", page.until(f"{bad} === 'Refused Sessions Last save Durable'"), True)
 
 
 def raw(told):
@@ -207,8 +214,10 @@ def a_day_can_be_chosen(page):
 
 def a_server_can_be_chosen(page, metrics_of):
     """With two servers the page has a choice, and shows the one that is chosen."""
-    with StandIn(stats={"batches": 5}, name="one") as at, StandIn(stats={"batches": 6}, name="two") as other:
-        other.put([(0, 0, 77)])
+    one, two = {"batches": 5}, {"batches": 6, "limit": 80, "max_batches": 2}
+    with StandIn(stats=one, name="one") as at, StandIn(stats=two, name="two") as other:
+        with Client(unix=other.path, client=5) as hhm:
+            hhm.put(1, [(0, 0, 77)])
         with metrics_of(at.path, "--also", f"unix:{other.path}") as metrics:
             page.open(metrics.url)
             check("page: the first server", page.until(f"{TILES}['Total'] === '0'"), True)
@@ -216,7 +225,32 @@ def a_server_can_be_chosen(page, metrics_of):
             page.value("(() => { const it = document.getElementById('servers'); it.selectedIndex = 1; "
                        "it.dispatchEvent(new Event('change')); })()")
             check("page: the second server", page.until(f"{TILES}['Total'] === '77'"), True)
+            near = ("[...document.querySelectorAll('#tiles div')].slice(0, 2).map((it) => "
+                    "[it.className, it.lastChild.textContent])")
+            told = [(name, words.endswith(wanted)) for (name, words), wanted in zip(
+                page.value(near), ("50 % of its limit", "96 % of its limit"))]
+            check("page: near a limit", told, [("", True), ("bad", True)])
             check("page: its place", page.value("document.getElementById('place').textContent"), f"unix:{other.path}")
+
+
+def long_names_cut_no_number(page, metrics_of):
+    """Rows of IPv6 by their addresses, at each width: these are wrapped, and all numbers are seen."""
+    names = os.path.join(server.FOLDER, "long.names")
+    with open(names, "w") as file:
+        file.write("2001:db8:1111:2222:3333:4444:5555:6666\n")
+    with StandIn(size=(1 << 33, 1 << 33), stats={"batches": 1}) as at:
+        at.put([(1 << 32, 5, 123_456_789), (ADDRESS, 6, 5)])
+        with metrics_of(at.path, "--ip", "--names", names) as metrics:
+            page.open(metrics.url)
+            rows = [["2001:db8:1111:2222:3333:4444:5555:6666", "1", "123,456,789"], ["10.0.0.0", "1", "5"]]
+            check("long names", table_of(page, "top", 2), rows)
+            for width in (1280, 1000, 390, 320):
+                page.look(width, 900)
+                time.sleep(0.3)
+                is_cut = "(() => { const it = document.querySelector('#top .scroll'); " \
+                         "return it.scrollWidth > it.clientWidth; })()"
+                check(f"long names: none cuts a number at {width}", page.value(is_cut), False)
+    page.look(1200, 1400)
 
 
 def a_save_is_told(page, at):
@@ -293,3 +327,4 @@ def is_tried(metrics_of):
         what_is_told_is_shown(page, metrics_of)
         check("shown: no error in its console", page.faults, [])
         a_server_can_be_chosen(page, metrics_of)
+        long_names_cut_no_number(page, metrics_of)

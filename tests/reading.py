@@ -199,6 +199,42 @@ def drawn_files_are_read():
             check(f"drawn {seed} by {most}", (cells, at, sum(reasons.values())), (wanted, numbers, bad))
 
 
+def quotes_that_are_not_closed():
+    """Such a line is no event, whatever column has the quote, and the lines after it are read as they are."""
+    head, good = "src,dst,packets,note\n", f"{A},{B},3,x\n"
+    for bad in [f'{A},"{B},3,x\n', f'{A},{B},"3,x\n', f'{A},{B},3,"x\n', f'"{A},{B},3,x\n', f'{A},{B},3,"x""\n']:
+        for after in (1, 3, 150, 20_000):
+            wanted = [(1, 2, 3)] * (1 + after), [2, *range(4, 4 + after)], {"quotes": 1}
+            check(f"{bad!r} before {after}", read(head + good + bad + good * after)[:3], wanted)
+        found = read(head + (good + bad) * 40 + good, most=7)
+        # (of two quotes in the last column all between is a word; of others each line is by itself)
+        is_last = ',3,"' in bad
+        check(f"{bad!r} again and again", (len(found[0]), found[2]), (41, {} if is_last else {"quotes": 40}))
+    most = read(head + good + f'{A},{B},3,"x\n' + good * 99 + f'{A},{B},3,x"\n' + good)
+    check("a word on too many lines", (len(most[0]), most[2]), (102, {"quotes": 1}))
+    whole = read(head + good + f'{A},{B},4,"two\nlines"\n' + good)[:3]
+    check("a word on two lines", whole, ([(1, 2, 3), (1, 2, 4), (1, 2, 3)], [2, 4, 5], {}))
+    long = read(head + good + f'{A},{B},3,"{"x" * 200_000}"\n' + good)[:3]
+    check("a word that is too long", long, ([(1, 2, 3)] * 2, [2, 4], {"quotes": 1}))
+
+
+def quotes_anywhere_are_read_alike():
+    """Quotes at drawn places, of which many aren't closed: in batches of each size the same events of the same lines."""
+    for seed in range(150):
+        dice, lines = random.Random(seed), []
+        for _ in range(dice.randrange(1, 260 if seed % 5 == 0 else 40)):
+            line, kind = f"{A},{B},{dice.randrange(9)},n", dice.random()
+            if kind < 0.25:
+                place = dice.randrange(len(line) + 1)
+                line = line[:place] + '"' + line[place:]
+            elif kind < 0.45:
+                line = dice.choice([f'"{A}","{B}","3","x"', "", f'{A},{B},3,"two', 'lines"', f'{A},{B},3,"a ""b"" c"'])
+            lines.append(line)
+        text = dice.choice(["\n", "\r\n"]).join(["src,dst,packets,note", *lines, ""])
+        found = [read(text, most=most)[:3] for most in (1, 2, 7, 60, 1000)]
+        check(f"quotes {seed}", [it for it in found if it != found[0]], [])
+
+
 def bad_lines_are_counted():
     """At most five are shown, and all counted; too many end the reading at the line that is one too many."""
     good = [f"{A},{B},{n}" for n in range(2000)]
@@ -229,6 +265,8 @@ def all_are_tried():
     numbers_are_whole()
     tools_are_read()
     drawn_files_are_read()
+    quotes_that_are_not_closed()
+    quotes_anywhere_are_read_alike()
     bad_lines_are_counted()
 
 

@@ -24,7 +24,7 @@ from stand_in import frame
 SMALL = ["--rows", "3", "--cols", "3"]
 TEXT = b"%%MatrixMarket matrix coordinate integer general\n"
 KINDS = ["put", "cell", "row", "status", "export", "save", "stop", "put_cells", "stored", "range", "top", "stats",
-         "fold"]
+         "fold", "groups"]
 CODES = [1, 20, 21, 22, 23, 30, 31, 32, 33, 34, 35, 40, 41, 42, 43, 44, 50, 51, 52, *range(103, 117)]
 # What is different in each run, and how it is written.
 TIMED = {

@@ -21,9 +21,9 @@ OF_HHM = (
     "program.py", "questions.py", "exports.py", "log_check.py", "clients.py", "asking.py", "stats.py", "reading.py",
     "loading.py", "packages.py", "cluster.py", "bridges.py", "pictures.py", "analysis.py", "watching.py", "server.py",
     "generated.py", "folding.py", "server_faults.py", "server_log.py", "identity.py", "forking.py",
-    "fold_files.py", "growing.py", "server_log_faults.py", "log_events.py", "log_torture.py", "server_paths.py",
-    "server_ends.py", "progress.py", "server_clients.py", "install.py", "distribution.py", "examples.py", "backups.py",
-    "refused.py",
+    "fold_files.py", "growing.py", "server_log_faults.py", "log_events.py", "call_order.py", "log_torture.py",
+    "server_paths.py", "server_ends.py", "progress.py", "server_clients.py", "install.py", "distribution.py",
+    "examples.py", "backups.py", "refused.py",
 )  # fmt: skip
 OF_GROWTHS = ("refused_libraries.py",)
 OF_BENCH = ("run.py", "serve.py")

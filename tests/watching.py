@@ -248,6 +248,13 @@ def a_server_is_watched():
     check("watch: gone", (output, status), ("", 4))
 
 
+def a_failed_log_is_watched():
+    for told, wanted in [({"log_failed": 1}, True), ({"log_failed": 0}, False), ({}, False)]:
+        with StandIn(stats=told) as at:
+            output = run([*HHMC, "--unix", at.path, "watch", "--once", "--every", "0.1"])[0]
+            check(f"watch: {told}", "log failed" in output.splitlines(), wanted)
+
+
 def several_servers_are_told():
     """One exporter of two servers: each sample has its server, and the page asks for one by its number."""
     one, two = {"batches": 1, 'odd_family{a="b"}': 7}, {"batches": 2}
@@ -280,6 +287,19 @@ def a_day_is_kept():
     series = series_of(looker.day[-4:], 0.0, 210.0)
     rates = [None, 1.0, 1.0, None, None]
     check("a day: rates", (series["batches"], series["total"]), (rates, [rate and 3 * rate for rate in rates]))
+
+
+def what_is_wrong_passes():
+    """A refusal that is seen is wrong for ten minutes; a failed save until one is made, also one that was there."""
+    looker, now = Looker(None, 1.0), time.time()
+    for age, refused, saves, failed, wanted in [
+        (900, 7, 0, 1, (False, True)), (890, 7, 1, 1, (False, False)), (880, 8, 1, 1, (False, False)),
+        (870, 8, 1, 2, (False, True)), (860, 8, 2, 2, (False, False)), (60, 9, 2, 2, (True, False)),
+        (50, 0, 0, 0, (True, False)),
+    ]:
+        told = {'refused_total{code="22"}': refused, "saves_total": saves, "failed_saves_total": failed}
+        looker.note_rises(Moment(now - age, Status(0, 0), told, 0.0, 0.0))
+        check(f"wrong: {age} s ago", (looker.is_refusing(), looker.is_unsaved()), wanted)
 
 
 def a_narrow_screen_is_told():
@@ -344,8 +364,10 @@ def all_are_tried():
     a_browser_is_answered()
     a_server_is_watched()
     a_narrow_screen_is_told()
+    a_failed_log_is_watched()
     several_servers_are_told()
     a_day_is_kept()
+    what_is_wrong_passes()
     rates_are_drawn()
     page.is_tried(Metrics)
 

@@ -22,7 +22,7 @@
 #include <time.h>
 #include <unistd.h>
 
-enum { PUT = 0x01, CELL, ROW, STATUS, EXPORT, SAVE, STOP, PUT_CELLS, STORED, RANGE, TOP, STATS, FOLD };
+enum { PUT = 0x01, CELL, ROW, STATUS, EXPORT, SAVE, STOP, PUT_CELLS, STORED, RANGE, TOP, STATS, FOLD, GROUPS = 0x12 };
 enum { ACCEPTED = 0x81, VALUE, ROW_SUM, COUNTS, TEXT, SAVED, STOPPING, CELLS, ROWS, TOLD, REFUSED = 0xff };
 /* Codes of refusals. */
 enum { LOG_FULL = 34, LOG_FAILED = 35 };
@@ -1046,18 +1046,35 @@ static int read_top(const reply *got, hhm_by by, hhm_top_row *rows, size_t most,
     return 1;
 }
 
-hhm_result hhm_ask_top(hhm_client *hhm, hhm_by by, hhm_top_row *rows, size_t most, size_t *count)
+/* Asks for rows that lead. */
+static hhm_result ask_rows(hhm_client *hhm, request *it, hhm_by by, hhm_top_row *rows, size_t most, size_t *count)
 {
-    unsigned char bytes[9] = {(unsigned char)by};
     reply got;
-    push(bytes + 1, most, 8);
-    request it = of_bytes(TOP, bytes, sizeof bytes);
-    hhm_result result = ask(hhm, &it, ROWS, &got);
+    hhm_result result = ask(hhm, it, ROWS, &got);
     if (result)
         return result;
     int is_read = read_top(&got, by, rows, most, count);
     free(got.text);
     return is_read ? HHM_OK : bad_reply(hhm);
+}
+
+hhm_result hhm_ask_top(hhm_client *hhm, hhm_by by, hhm_top_row *rows, size_t most, size_t *count)
+{
+    unsigned char bytes[9] = {(unsigned char)by};
+    push(bytes + 1, most, 8);
+    request it = of_bytes(TOP, bytes, sizeof bytes);
+    return ask_rows(hhm, &it, by, rows, most, count);
+}
+
+hhm_result hhm_ask_groups(hhm_client *hhm, hhm_by by, uint64_t first, uint64_t last, unsigned shift, hhm_top_row *rows,
+                          size_t most, size_t *count)
+{
+    unsigned char bytes[26] = {(unsigned char)by, (unsigned char)(shift < 64 ? shift : 64)};
+    push(bytes + 2, most, 8);
+    push(bytes + 10, first, 8);
+    push(bytes + 18, last, 8);
+    request it = of_bytes(GROUPS, bytes, sizeof bytes);
+    return ask_rows(hhm, &it, by, rows, most, count);
 }
 
 /* Whether a text is lines `name value` of ASCII, each with its LF. */

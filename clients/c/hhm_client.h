@@ -222,6 +222,12 @@ void hhm_range_close(hhm_range *range);
    first, and of equal ones the lowest row. `count` gets how many there are. */
 hhm_result hhm_ask_top(hhm_client *hhm, hhm_by by, hhm_top_row *rows, size_t most, size_t *count);
 
+/* The first `most` groups of the rows from `first` to `last`, both ends in, as hhm_ask_top has rows. Rows are in one
+   group if their numbers are the same without their last `shift` bits, 0 to 63; the number that is left is the group's
+   `row`. A server that doesn't know the question refuses it (code 51). */
+hhm_result hhm_ask_groups(hhm_client *hhm, hhm_by by, uint64_t first, uint64_t last, unsigned shift, hhm_top_row *rows,
+                          size_t most, size_t *count);
+
 /* What the server tells of itself: a text of lines `name value`, which ends with a byte 0 that `length` doesn't count;
    free it with free(). A program takes the names that it knows. A server that doesn't know the question refuses it
    (code 51). */

@@ -85,6 +85,18 @@ def answered(given: argparse.Namespace, names: Sequence[str], rows: Iterable[Row
         yield line.encode("utf-8", "surrogateescape")
 
 
+class Table(List[Row]):
+    """The rows of an answer, with the names of their columns."""
+
+    def __init__(self, names: Sequence[str], rows: Iterable[Row]):
+        super().__init__(rows)
+        self.names = names
+
+    def _repr_html_(self) -> str:
+        """A table, for notebooks."""
+        return html_table(self.names, self)
+
+
 def html_table(names: Sequence[str], rows: Iterable[Row]) -> str:
     """A table for a notebook."""
     head = "".join(f"<th>{html.escape(name)}</th>" for name in names)

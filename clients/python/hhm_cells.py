@@ -4,17 +4,21 @@
     total = sum_of("packets.mtx")                   # a text, whose entries `hhm sum` adds up
     total = sum_of(Client(unix="/run/hhm/hhm.sock"))# a server, by an export, or where that is too long by ranges
     print(total.rows, total.cols, len(total.cells.counts))
+    for part in pages_of(hhm, (0, 9), (0, 1 << 20)):# a range of a server, page by page
+        print(sum(part.counts))
 
 No count is rounded, and a stored zero is a cell like others. Memory: 24 bytes a cell, and some megabytes.
 """
 import array
 import io
+import itertools
+import operator
 import os
 import subprocess
 import sys
-from typing import BinaryIO, NamedTuple, Optional, Union
+from typing import BinaryIO, Iterator, NamedTuple, Optional, Tuple, Union
 
-from hhm_client import Arrays, Client, Refused
+from hhm_client import CELLS, RANGE, Arrays, BadReply, Client, Place, Refused, request
 
 # The bytes of a text that are parted into words at once, and the cells of a page.
 BLOCK, PAGE = 1 << 20, 100_000
@@ -66,18 +70,50 @@ def sum_of_server(hhm: Client) -> Sum:
 def sum_of_pages(hhm: Client, refused: Refused) -> Sum:
     """By ranges; what was refused where the server doesn't know them."""
     rows, cols = hhm.size()
-    cells = Arrays(array.array("Q"), array.array("Q"), array.array("Q"))
+    cells = no_cells()
+    try:
+        for page in pages_of(hhm, (0, rows - 1), (0, cols - 1)):
+            for numbers, more in zip(cells, page):
+                numbers.extend(more)
+    except Refused as why:
+        raise refused if why.name == "UnknownKind" else why
+    return Sum(rows, cols, cells)
+
+
+def no_cells() -> Arrays:
+    return Arrays(array.array("Q"), array.array("Q"), array.array("Q"))
+
+
+def pages_of(hhm: Client, rows: Place, cols: Place, most: int = PAGE) -> Iterator[Arrays]:
+    """The cells whose row and column are from the first to the last of these, both ends in, in order. They are asked
+    for page by page, of so many cells each, at most 1,000,000: a page has what is there when it is asked for."""
     start, has_more = (0, 0), True
     while has_more:
-        try:
-            page, has_more = hhm.page((0, rows - 1), (0, cols - 1), start, PAGE)
-        except Refused as why:
-            raise refused if why.name == "UnknownKind" else why
-        for numbers, column in zip(cells, zip(*page)):
-            numbers.extend(column)
-        if page:
-            start = page[-1][0], page[-1][1] + 1
-    return Sum(rows, cols, cells)
+        frame = request(RANGE, *rows, *cols, *start, most)
+        page, has_more = hhm._ask_for(frame, CELLS, lambda body: page_of(body, rows, cols, start, most))
+        if page.rows:
+            start = page.rows[-1], page.cols[-1] + 1
+            yield page
+
+
+def page_of(body: bytes, rows: Place, cols: Place, start: Place, most: int) -> Tuple[Arrays, bool]:
+    """The cells that a reply to a Range has, and whether there are more. A BadReply where it is none of what was asked
+    for."""
+    if len(body) % 24 != 1 or body[0] > 1:
+        raise BadReply(f"{len(body)} bytes are no page")
+    numbers = array.array("Q", bytes(body[1:]))
+    if sys.byteorder == "little":
+        numbers.byteswap()
+    page = Arrays(numbers[0::3], numbers[1::3], numbers[2::3])
+    count = len(page.rows)
+    if count > most or (body[0] == 1 and count < most):
+        raise BadReply(f"a page of {count} cells, and {most} were asked for")
+    places = list(zip(page.rows, page.cols))
+    is_right = all(map(operator.lt, places, itertools.islice(places, 1, None)))
+    if places and not (is_right and start <= places[0] and rows[0] <= places[0][0] and places[-1][0] <= rows[1]
+                       and cols[0] <= min(page.cols) and max(page.cols) <= cols[1]):
+        raise BadReply("a cell of the page isn't in its place")
+    return page, body[0] == 1
 
 
 def sum_of_file(path: str, program: str) -> Sum:
@@ -100,12 +136,18 @@ def read_sum(text: BinaryIO) -> Optional[Sum]:
     if len(size) != 3:
         return None
     rows, cols, entries = map(int, size)
-    cells = Arrays(array.array("Q"), array.array("Q"), array.array("Q"))
+    cells = no_cells()
+    for part in parts_of(text):
+        for numbers, more in zip(cells, part):
+            numbers.extend(more)
+    return Sum(rows, cols, cells) if len(cells.counts) == entries else None
+
+
+def parts_of(text: BinaryIO) -> Iterator[Arrays]:
+    """The cells of the entries of a text, from its next line on, some at a time."""
     rest = b""
     while block := text.read(BLOCK):
         lines, _, rest = (rest + block).rpartition(b"\n")
         words = lines.split()
-        cells.rows.extend([int(word) - 1 for word in words[0::3]])
-        cells.cols.extend([int(word) - 1 for word in words[1::3]])
-        cells.counts.extend(map(int, words[2::3]))
-    return Sum(rows, cols, cells) if len(cells.counts) == entries else None
+        yield Arrays(*(array.array("Q", [int(word) - 1 for word in words[axis::3]]) for axis in (0, 1)),
+                     array.array("Q", list(map(int, words[2::3]))))

@@ -70,6 +70,7 @@ BANNER = b"%%MatrixMarket matrix coordinate integer general\n"
 BOOK_ID = re.compile(rb'^book\{id="([0-9a-f]{32})"\} ', re.MULTILINE)
 
 PUT, CELL, ROW, STATUS, EXPORT, SAVE, STOP, PUT_CELLS, STORED, RANGE, TOP, STATS, FOLD = range(1, 14)
+GROUPS = 0x12
 ACCEPTED, VALUE, ROW_SUM, COUNTS, TEXT, SAVED, STOPPING, CELLS, ROWS, TOLD = range(0x81, 0x8B)
 REFUSED = 0xFF
 # What the rows of a top may lead by, each at its number in the request.
@@ -709,6 +710,16 @@ class Client:
         frame = request(TOP, body=struct.pack(">BQ", BY.index(by), most))
         return self._ask_for(frame, ROWS, lambda body: top_of(body, most, by))
 
+    def groups(self, rows: Place, shift: int, most: int = 10, by: str = "total") -> Top:
+        """The first `most` groups, at most 1,000,000, of the rows from the first to the last of these, both ends in.
+        Rows are in one group if their numbers are the same without their last `shift` bits, 0 to 63. The number that
+        is left is the group's, and is its `row`. The order is that of `top`. A server that doesn't know the
+        question refuses it (UnknownKind)."""
+        if by not in BY or not 0 <= most < 2**64 or not 0 <= shift < 2**8:
+            raise ValueError(f"by is one of {BY}, shift a number from 0 to 63, and most one from 1 to 1,000,000")
+        frame = request(GROUPS, body=struct.pack(">BBQQQ", BY.index(by), shift, most, *rows))
+        return self._ask_for(frame, ROWS, lambda body: top_of(body, most, by))
+
     def stats(self) -> Dict[str, Union[int, float, str]]:
         """What the server tells of itself, by names of which a program takes those that it knows. One that doesn't know
         the question refuses it (UnknownKind)."""
@@ -1058,9 +1069,12 @@ def address(word: str) -> str:
 
 def main() -> int:
     """The command line, which is hhm_command.py beside this file."""
-    import hhm_command
+    try:
+        import hhm_command
 
-    return hhm_command.main()
+        return hhm_command.main()
+    except KeyboardInterrupt:
+        return 130
 
 
 if __name__ == "__main__":

@@ -3,11 +3,13 @@ beside it: `load` (hhm_load.py), `plot` (hhm_plot.py), all questions (hhm_ask.py
 (hhm_watch.py), `metrics` (hhm_metrics.py) and `backup` (hhm_backup.py)."""
 import argparse
 import importlib
+import importlib.util
 import os
+import re
 import signal
 import sys
 import threading
-from typing import Any, Iterable, Optional
+from typing import Any, Iterable, Optional, Sequence, Set
 
 import hhm_version
 from hhm_client import MAX_BODY, SILENCE, Client, Ended, Refused, address, exact_where_of, number
@@ -20,6 +22,17 @@ UNKNOWN = "this server doesn't know the question"
 ADVICE = {"TooManyEntries": f": {SPLIT}", "ReplyTooLarge": f": {TOO_LONG}", "UnknownKind": f": {UNKNOWN}"}
 STATUSES = ("Statuses: 0; 1 where the server refused; 2 for wrong words; 3 for lines that are no events and files that "
             "are no sum; 4 where the server can't be reached, or a file can't be read; 130 after Ctrl-C.")
+# The words with a module of their own, and what the help says of each; those of hhm_ask.py; and all others.
+MODULES = {
+    "load": ("hhm_load", "puts the events of files, in batches that count once"),
+    "plot": ("hhm_plot", "draws degrees, where cells are, or rates"),
+    "watch": ("hhm_watch", "shows on a terminal what the server does"),
+    "metrics": ("hhm_metrics", "tells it to Prometheus, and on a page for a browser"),
+    "export": ("hhm_export", "writes the sum as a Matrix Market text, or in a format of other tools"),
+    "backup": ("hhm_backup", "copies a server's files, on its machine, and checks the copy"),
+}
+QUESTIONS = ("cell", "row", "top", "list", "range", "degrees", "status", "stored", "stats")
+PLAIN = ("put", "save", "fold", "stop")
 # The words that ask for long, and so don't say that they wait for an answer.
 LONG = ("load", "top", "list", "range", "degrees", "row", "export", "plot")
 # The variable with the server's address, and what the help says of it.
@@ -28,6 +41,7 @@ ENVIRONMENT = (
     f"Where no address is given, that of the environment variable {SERVER} is used: unix:PATH or tcp:HOST:PORT, as "
     f"{SERVER}=unix:/run/hhm/hhm.sock."
 )
+NUMBER = re.compile("0*[1-9][0-9]*", re.ASCII)
 KEPT_RUNNING = ": nothing was stopped; `stop --discard` stops the server without what it can't save"
 
 
@@ -74,7 +88,19 @@ class Version(argparse.Action):
         words.exit(status)
 
 
-def parser() -> argparse.ArgumentParser:
+def add_word(asked: argparse._SubParsersAction, name: str, named: Set[str]) -> None:
+    """Adds a word of a module beside this one, where that is there. Its options are added only where the command line
+    names the word, or none: so other modules aren't loaded."""
+    module, told = MODULES[name]
+    if named and name not in named:
+        if importlib.util.find_spec(module):
+            asked.add_parser(name, help=told)
+    elif found := module_of(module):
+        found.add_words(asked.add_parser(name, help=told))
+
+
+def parser(given: Sequence[str] = ()) -> argparse.ArgumentParser:
+    """What reads the words of a command line, with the options of the commands that are among them, or of all."""
     about = "Asks a server of hhm. Rows and columns count from 0."
     words = Parser(prog="hhmc", description=about)
     version = "prints the package's file BUILD: version and proof, and whether the program hhm in use has its sum"
@@ -94,24 +120,17 @@ def parser() -> argparse.ArgumentParser:
     put.add_argument("client", type=number)
     put.add_argument("number", type=number)
     put.add_argument("file", nargs="?", help="standard input where none is given")
-    if module := module_of("hhm_load"):
-        module.add_words(asked.add_parser("load", help="puts the events of files, in batches that count once"))
-    if module := module_of("hhm_plot"):
-        module.add_words(asked.add_parser("plot", help="draws degrees, where cells are, or rates"))
-    if module := module_of("hhm_ask"):
-        module.add_words(asked)
-    if module := module_of("hhm_watch"):
-        module.add_words(asked.add_parser("watch", help="shows on a terminal what the server does"))
-    if module := module_of("hhm_metrics"):
-        module.add_words(asked.add_parser("metrics", help="tells it to Prometheus, and on a page for a browser"))
-    export = asked.add_parser("export", help="writes the sum as a Matrix Market text, or in a format of other tools")
-    if module := module_of("hhm_export"):
-        module.add_words(export)
+    named = set() if {"-h", "--help"} & {*given} else {*given} & {*MODULES, *QUESTIONS, *PLAIN}
+    for name in ("load", "plot"):
+        add_word(asked, name, named)
+    if (not named or named & {*QUESTIONS}) and (questions := module_of("hhm_ask")):
+        questions.add_words(asked)
+    for name in ("watch", "metrics", "export"):
+        add_word(asked, name, named)
     asked.add_parser("save", help="saves a snapshot")
     asked.add_parser("fold", help="folds what was accepted, so that the server needs less memory for it")
     add_stop(asked)
-    if module := module_of("hhm_backup"):
-        module.add_words(asked.add_parser("backup", help="copies a server's files, on its machine, and checks the copy"))
+    add_word(asked, "backup", named)
     words.epilog = f"{ENVIRONMENT} {STATUSES}"
     for word in asked.choices.values():
         word.epilog = STATUSES
@@ -125,8 +144,13 @@ def add_stop(asked: argparse._SubParsersAction) -> None:
 
 def given_words() -> argparse.Namespace:
     """The words of the command line, with the address of a value, or of the environment, where they have none."""
-    words = parser()
-    given = words.parse_args()
+    words = parser(sys.argv[1:])
+    given, rest = words.parse_known_args()
+    # (argparse leaves an N over that comes after options)
+    if given.word == "top" and given.most is None and len(rest) == 1 and NUMBER.fullmatch(rest[0]):
+        given.most = int(rest[0])
+    elif rest:
+        words.error(f"unrecognized arguments: {' '.join(rest)}")
     if getattr(given, "value", None):
         module_of("hhm_values").choose(given, words.error)
     has_server = any(place is not None for place in (given.tcp, given.unix, given.source))

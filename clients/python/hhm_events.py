@@ -14,9 +14,10 @@ import re
 import socket
 import struct
 import sys
+from bisect import bisect_left, bisect_right
 from collections import Counter
 from decimal import Decimal, InvalidOperation
-from operator import methodcaller, ne
+from operator import methodcaller
 from time import monotonic
 from typing import (
     Any, Callable, Collection, Dict, Iterable, Iterator, List, NamedTuple, Optional, Sequence, Set, TextIO, Tuple,
@@ -35,9 +36,15 @@ ENOUGH, SHOWN = 1_000, 5
 MOST = (1 << 64) - 1
 # A count as spreadsheets and programs of floats write it.
 DECIMAL = re.compile(r"[0-9]+(\.[0-9]*)?([eE]\+?[0-9]{1,3})?", re.ASCII)
+# What `int` takes beside digits and digits after `-`, of what is printable.
+NOT_BY_INT = ("+", "_", " ", "-0")
 NO_ADDRESS = bytes(4)
 # How a log of Zeek writes a count that it doesn't have.
 UNSET = "-"
+# So few items are taken out of lists, or put into them, one by one.
+FEW = 100
+# The lines that a row with quotes may be on.
+ROW_LINES = 100
 Mapping = Callable[[Sequence[str], Set[int]], Sequence[int]]
 
 
@@ -137,18 +144,49 @@ def whole_numbers(words: Sequence[str], bad: Set[int], meaning: Callable[[str], 
 
 
 def odd_numbers(words: Sequence[str], bad: Set[int], meaning: Callable[[str], int]) -> List[int]:
-    """The same where some words aren't digits alone, or are too large. `.0` after digits is cut off at once."""
-    digits = [word[:-2] if word[-2:] == ".0" and meaning is whole_of else word for word in words]
-    odd = [place for place, word in enumerate(digits) if not (word.isdigit() and word.isascii() and len(word) < 20)]
-    for place in odd:
-        digits[place] = "0"
-    numbers = list(map(int, digits))
+    """The same where some words aren't digits alone, or are too large."""
+    text = "".join(words)
+    if text.count(".0") * 8 > len(words) and meaning is whole_of:
+        numbers, odd = parted_numbers([word[:-2] if word[-2:] == ".0" else word for word in words])
+    elif not text.isascii() or not text.isprintable() or any(sign in text for sign in NOT_BY_INT):
+        numbers, odd = parted_numbers(words)
+    else:
+        numbers, odd = whole_by_int(words)
+    try:
+        array.array("Q", numbers)
+    except OverflowError:
+        odd += [place for place, number in enumerate(numbers) if not 0 <= number <= MOST]
     for place in odd:
         try:
             numbers[place] = meaning(words[place])
         except NoEvent:
+            numbers[place] = 0
             bad.add(place)
     return numbers
+
+
+def parted_numbers(words: Sequence[str]) -> Tuple[List[int], List[int]]:
+    """The numbers of words of digits, and the indices of all others, whose numbers are 0."""
+    odd = [place for place, word in enumerate(words) if not (word.isdigit() and word.isascii() and len(word) < 4000)]
+    digits = list(words)
+    for place in odd:
+        digits[place] = "0"
+    return list(map(int, digits)), odd
+
+
+def whole_by_int(words: Sequence[str]) -> Tuple[List[int], List[int]]:
+    """The same of words of which `int` takes digits alone, or digits after `-`."""
+    numbers: List[int] = []
+    odd: List[int] = []
+    rest = map(int, words)
+    while len(numbers) < len(words):
+        try:
+            numbers.extend(rest)
+        except ValueError:
+            # (a list keeps what it was extended by before a fault)
+            odd.append(len(numbers))
+            numbers.append(0)
+    return numbers, odd
 
 
 def places_from_one(words: Sequence[str], bad: Set[int]) -> List[int]:
@@ -270,7 +308,7 @@ def format_of(path: str) -> str:
 class Lines:
     """The lines of a text, one by one or some at once, and how many were taken."""
 
-    def __init__(self, text: TextIO):
+    def __init__(self, text: Iterator[str]):
         self.text, self.number = text, 0
         # Lines that were given back, the next one last.
         self.waiting: List[str] = []
@@ -295,6 +333,51 @@ class Lines:
         self.number -= len(lines)
 
 
+class Broken(List[str]):
+    """A line of which no words can be read; its one item says why."""
+
+
+class QuotedRows:
+    """The rows of a csv with quotes. A row may be on several lines, at most a hundred. Where a quote isn't closed on
+    these, or `is_whole` says that they are no row, the row is the first line alone, and the others are read again."""
+
+    def __init__(self, lines: Lines, separator: str, is_padded: bool):
+        self.lines, self.how = lines, {"delimiter": separator, "skipinitialspace": is_padded}
+        self.is_whole: Callable[[List[str]], bool] = bool
+        # The lines of the row that is read, and whether more were wanted than there are.
+        self.taken: List[str] = []
+        self.is_cut = False
+        self.rows = self.reader()
+
+    def reader(self) -> Iterator[List[str]]:
+        return csv.reader(iter(self.line, None), **self.how)
+
+    def line(self) -> Optional[str]:
+        """The next line of a row; None where there is no further one for it."""
+        line = next(self.lines, None) if len(self.taken) < ROW_LINES else None
+        self.is_cut = line is None
+        if line is not None:
+            self.taken.append(line)
+        return line
+
+    def __iter__(self) -> "QuotedRows":
+        return self
+
+    def __next__(self) -> List[str]:
+        self.taken, self.is_cut = [], False
+        try:
+            row = next(self.rows)
+            is_whole = not self.is_cut and (len(self.taken) == 1 or self.is_whole(row))
+        except csv.Error:
+            row, is_whole = [], False
+        if is_whole:
+            return row
+        # (a reader whose lines have ended reads no more)
+        self.rows = self.reader()
+        self.lines.give_back(self.taken[1:])
+        return Broken(["a quote isn't closed" if self.taken[0].count('"') % 2 else "no words of a csv"])
+
+
 class Shape(NamedTuple):
     """How the lines of a format are parted into words: by a separator, or by spaces where there is none. Text with any
     of these signs is parted by a reader. `is_padded` says that spaces may come before a word."""
@@ -308,16 +391,38 @@ class Shape(NamedTuple):
         if self.separator is None:
             return (words for line in lines if (words := line.split()) and words[0][0] not in self.signs)
         if self.signs:
-            return csv.reader(lines, delimiter=self.separator, skipinitialspace=self.is_padded)
+            return QuotedRows(lines, self.separator, self.is_padded)
         return csv.reader(lines, delimiter=self.separator, quoting=csv.QUOTE_NONE)
 
     def is_plain(self, text: str) -> bool:
         """Whether each line is a row, and each separator parts two words."""
         return "\r" not in text and not any(sign in text for sign in self.signs)
 
+    def apart(self, lines: List[str]) -> Tuple[List[int], int]:
+        """The indices of the lines with quotes, which are read one by one, and how many lines are read with them: those
+        before a row that may be on several. Where lines with quotes are many, that is 0."""
+        if not self.is_quoted() or "\r" in "".join(lines).replace("\r\n", "\n"):
+            return list(range(len(lines))), 0
+        found = [place for place, line in enumerate(lines) if '"' in line]
+        if len(found) > FEW:
+            return found, 0
+        for count, place in enumerate(found):
+            # (where the lines end amid a row, further ones may be of it)
+            few = lines[place : place + ROW_LINES + 1]
+            rows = QuotedRows(Lines(iter(few)), self.separator, self.is_padded)
+            row = next(rows)
+            if isinstance(row, Broken) and len(few) <= ROW_LINES or rows.lines.number > 1:
+                return found[:count], place
+        return found, len(lines)
+
+    def is_quoted(self) -> bool:
+        return self.signs == '"'
+
     def row_of(self, line: str) -> List[str]:
-        """The words of a plain line; none of a blank one."""
+        """The words of a line; none of a blank one."""
         bare = line.rstrip("\r\n")
+        if self.is_quoted() and '"' in bare:
+            return next(QuotedRows(Lines(iter([line])), self.separator, self.is_padded))
         if self.separator is None or not bare:
             return bare.split()
         words = bare.split(self.separator)
@@ -334,10 +439,8 @@ class Shape(NamedTuple):
 
     def unfit(self, lines: List[str], width: int) -> List[int]:
         """The indices of the plain lines that have another number of words."""
-        wanted = width if self.separator is None else width - 1
-        if set(self.widths(lines)) == {wanted} and width > 1:
-            return []
-        unfit = itertools.compress(range(len(lines)), map(ne, self.widths(lines), itertools.repeat(wanted)))
+        wanted, widths = (width if self.separator is None else width - 1), list(self.widths(lines))
+        unfit = places_of_others(widths, wanted)
         blank = [] if width > 1 else [place for place, line in enumerate(lines) if not line.strip("\r\n")]
         return sorted({*unfit, *blank})
 
@@ -353,6 +456,16 @@ class Shape(NamedTuple):
         if self.is_padded and " " in text and (self.separator + " " in text or "\n " in text or text[0] == " "):
             return [[word.lstrip(" ") for word in column] for column in columns]
         return columns
+
+
+def places_of_others(numbers: List[int], wanted: int) -> List[int]:
+    """The indices of the numbers that aren't the wanted one, where most are."""
+    if numbers.count(wanted) == len(numbers):
+        return []
+    if max(numbers) < 256 and wanted < 256:
+        # (ten times as fast as a loop)
+        return [found.start() for found in re.finditer(b"[^\\x%02x]" % wanted, bytes(numbers), re.S)]
+    return [place for place, number in enumerate(numbers) if number != wanted]
 
 
 SHAPES = {"csv": Shape(",", '"', True), "tsv": Shape("\t", ""), "mtx": Shape(None, "%"), "pairs": Shape(None, "#%"),
@@ -395,6 +508,8 @@ class Events:
         self.columns, separator, self.head = self.described(wanted)
         self.shape = self.shape._replace(separator=separator)
         self.rows = self.shape.rows(self.lines)
+        if isinstance(self.rows, QuotedRows):
+            self.rows.is_whole = self.is_on_lines
 
     def described(self, wanted: Wanted) -> Found:
         """The columns of the file; a head that names them is read."""
@@ -462,14 +577,18 @@ class Events:
         first = self.lines.number + 1
         lines = self.lines.take(most)
         text = "".join(lines).replace("\r\n", "\n")
-        if not self.shape.is_plain(text):
-            self.lines.give_back(lines)
-            return self.next_rows(number, most)
+        apart, has_signs = [], not self.shape.is_plain(text)
+        if has_signs:
+            apart, end = self.shape.apart(lines)
+            self.lines.give_back(lines[end:])
+            del lines[end:]
+            if not lines:
+                return self.next_rows(number, most if len(apart) > FEW else 1)
         if not lines:
             return None
         width = self.width_of(map(self.shape.width_of, lines))
-        unfit = self.shape.unfit(lines, width)
-        if unfit:
+        unfit = sorted({*apart, *self.shape.unfit(lines, width)})
+        if unfit or has_signs:
             text = "".join(without(unfit, [lines])[0]).replace("\r\n", "\n")
         columns = self.shape.columns(text, width, self.columns.places())
         piece = Piece(lambda place: self.shape.row_of(lines[place]), range(first, first + len(lines)))
@@ -494,6 +613,11 @@ class Events:
     def fits(self, width: int) -> bool:
         return max(self.columns.places()) < width
 
+    def is_on_lines(self, row: List[str]) -> bool:
+        """Whether words on several lines may be a row: other words than those of an event have the line ends."""
+        is_wide = self.columns.width in (None, len(row)) and self.fits(len(row))
+        return is_wide and not any("\n" in row[place] or "\r" in row[place] for place in self.columns.places())
+
     def sifted(self, number: int, piece: Piece, columns: List[List[str]], unfit: List[int]) -> Batch:
         """The events of a piece, given the words of the lines that are as wide as they should be. All other lines, and
         those of words that mean nothing, are judged one by one."""
@@ -501,12 +625,11 @@ class Events:
         bad, parts = self.read(columns)
         others = unfit
         if bad:
-            [places] = without(unfit, [range(size)])
-            others = sorted([*unfit, *(places[place] for place in bad)])
+            others = sorted([*unfit, *places_among(bad, unfit)])
         if others:
             [lines] = without(others, [piece.numbers])
             if found := self.with_others(piece, others):
-                lines, *parts = map(list, zip(*sorted([*zip(lines, *parts), *found])))
+                lines, *parts = with_more([lines, *parts], found)
         else:
             self.tally.lines += size
             self.found += size
@@ -522,8 +645,7 @@ class Events:
         parts = [self.numbers(words, bad) for words in (row, col)]
         counts = without(without_count, counts)
         if bad and without_count:
-            [places] = without(without_count, [range(len(columns[0]))])
-            return without_count.union(places[place] for place in bad), without(bad, [*parts, *counts])
+            return without_count.union(places_among(bad, sorted(without_count))), without(bad, [*parts, *counts])
         return bad or without_count, without(bad, [*parts, *counts])
 
     def counts(self, words: List[str], bad: Set[int]) -> List[int]:
@@ -569,6 +691,8 @@ class Events:
 
     def event_of(self, words: List[str]) -> List[int]:
         """The row, column and counts of a line. A NoEvent where it is none."""
+        if isinstance(words, Broken):
+            raise NoEvent("quotes", words[0])
         if self.columns.width is not None and len(words) != self.columns.width:
             raise NoEvent("columns", f"{len(words)} columns, and not {self.columns.width}")
         if not self.fits(len(words)):
@@ -590,14 +714,39 @@ def is_summary(words: List[str], head: List[str]) -> bool:
     return words == head or words[0] in ("Summary", "No matched flows") or words[:2] == ["flows", "bytes"] or is_numbers
 
 
+def places_among(places: Iterable[int], others: Sequence[int]) -> Iterator[int]:
+    """The indices that items had before those at other indices, which rise, were taken out."""
+    # (the k-th other one came before an item exactly where it stands no more than k behind it)
+    shifted = [other - before for before, other in enumerate(others)]
+    return (place + bisect_right(shifted, place) for place in places)
+
+
 def without(places: Collection[int], lists: Sequence[Sequence[Any]]) -> List[Sequence[Any]]:
     """Some lists without the items at these indices."""
     if not places:
         return list(lists)
+    if len(places) <= FEW:
+        found = [list(values) for values in lists]
+        for place in sorted(places, reverse=True):
+            for values in found:
+                del values[place]
+        return found
     kept = bytearray(b"\1") * len(lists[0])
     for place in places:
         kept[place] = 0
     return [list(itertools.compress(values, kept)) for values in lists]
+
+
+def with_more(lists: Sequence[Sequence[int]], more: List[Tuple[int, ...]]) -> List[Sequence[int]]:
+    """Some lists of one length, of which the first rises, with further items of each in their places."""
+    found = [list(values) for values in lists]
+    if len(more) > FEW:
+        return list(map(list, zip(*sorted([*zip(*found), *more]))))
+    for items in more:
+        place = bisect_left(found[0], items[0])
+        for values, item in zip(found, items):
+            values.insert(place, item)
+    return found
 
 
 def joined(batch: Batch, more: Batch) -> Batch:
@@ -606,4 +755,6 @@ def joined(batch: Batch, more: Batch) -> Batch:
         return more
     for part, others in zip(batch.parts, more.parts):
         part.extend(others)
-    return batch._replace(lines=[*batch.lines, *more.lines])
+    lines = batch.lines if isinstance(batch.lines, list) else list(batch.lines)
+    lines.extend(more.lines)
+    return batch._replace(lines=lines)

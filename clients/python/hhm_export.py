@@ -12,6 +12,7 @@ import io
 from typing import Any, Callable, Dict, Iterator, Optional
 
 from hhm_answers import csv_lines
+from hhm_blocks import run_hhm
 from hhm_cells import NoSum, Source, Sum, sum_of
 from hhm_client import Client, Ended
 from hhm_words import Words, add_options
@@ -65,8 +66,6 @@ def mtx_of(hhm: Optional[Client], given: argparse.Namespace) -> Iterator[bytes]:
     if hhm is not None:
         yield hhm.export()
         return
-    from hhm_ask import run_hhm
-
     yield run_hhm(given, "export")
 
 

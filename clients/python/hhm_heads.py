@@ -176,6 +176,8 @@ def of_csv(path: str, next_line: Callable[[], str], wanted: Wanted, separators: 
     line = next_line()
     while line and is_above_head(line, wanted, separators):
         line = next_line()
+    if not line:
+        raise Ended(2, f"{path}: there is no head: {WANTED}")
     return with_head(path, line, wanted, separators)
 
 

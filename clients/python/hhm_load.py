@@ -25,6 +25,7 @@ import json
 import os
 import re
 import sys
+import zlib
 from time import monotonic
 from typing import Any, Callable, Deque, Dict, Iterable, Iterator, List, NamedTuple, Optional, Sequence, Tuple
 
@@ -34,7 +35,8 @@ from hhm_heads import DIGITS, Wanted
 from hhm_values import Value, folder_of_states, note
 
 MAPS = ("ip", "int", "name")
-# How lines are judged, as the state of a load notes it: another number where other lines would be events.
+# How lines are judged, as the state of a load notes it: another number where other lines would be events. (Where that
+# changed for odd quotes alone, the checksums of their batches show it.)
 RULES = "2"
 # What lines of a state file begin with that are no checksum: the options of a load, the books that the next lines are
 # of, and the books whose are the lines of no known book.
@@ -419,7 +421,8 @@ class Load:
             source = Source(path)
         except OSError as fault:
             raise Ended(4, f"{path}: {fault.strerror}") from None
-        events = Events(source, kind, self.options.wanted, how, table, self.tally)
+        with self.reading(source):
+            events = Events(source, kind, self.options.wanted, how, table, self.tally)
         if path == self.options.files[0]:
             cols, batch = ",".join(events.columns.names), str(self.options.batch)
             self.state.judge_options({"rules": RULES, "--format": kind, "--map": how, "--cols": cols, "--batch": batch})
@@ -447,13 +450,26 @@ class Load:
             self.say(f"{batch.path}: its first {len(batch.lines)} events were loaded as client {client} too: where "
                      "that was into this server, they count twice")
 
+    @contextlib.contextmanager
+    def reading(self, source: Source) -> Iterator[None]:
+        """Reads a file. An Ended where it can't be read."""
+        try:
+            yield
+        except (OSError, EOFError, zlib.error) as fault:
+            raise Ended(4, f"{source.path}: {told_of(fault)}: {self.go_on()}") from None
+
+    def read(self, events: Events, number: int) -> Optional[Batch]:
+        """The next events of a file."""
+        with self.reading(events.source):
+            return events.next_batch(number, self.options.batch)
+
     def batches(self) -> Iterator[Batch]:
         """The batches of all files, each noted before it is handed on."""
         number = 0
         for path in self.options.files:
             events = self.events_of(path)
             with contextlib.closing(events.source):
-                while batch := events.next_batch(number, self.options.batch):
+                while batch := self.read(events, number):
                     self.note(batch)
                     self.way.append(batch)
                     self.last = batch
@@ -496,9 +512,14 @@ class Load:
                 yield self.put_first(value, first)
             for _, accepted in hhm.put_all((batch.number, batch.cells(value)) for batch in batches):
                 yield accepted.index
-        except (Refused, OSError):
-            self.place = f"{hhm.unix or hhm.tcp}: " if len(self.servers) > 1 else ""
+        except (Refused, OSError) as fault:
+            self.place = self.place_of(hhm, fault)
             raise
+
+    def place_of(self, hhm: Client, fault: Exception) -> str:
+        """Which server a fault is of, where it doesn't say so itself, or there are several."""
+        says_it = isinstance(fault, Refused) or getattr(fault, "filename", None) is not None
+        return "" if says_it and len(self.servers) == 1 else f"{hhm.unix or hhm.tcp}: "
 
     def put_first(self, value: int, batch: Batch) -> int:
         """Puts a server's first batch, and returns its index there."""
@@ -522,9 +543,15 @@ class Load:
 
     def put_all(self) -> None:
         """Reads the files once, and puts each value to its server."""
-        self.books = [hhm.book_id() for hhm in self.servers]
+        self.books, had = [], []
+        for hhm in self.servers:
+            try:
+                self.books.append(hhm.book_id())
+                had.append(hhm.status().batches)
+            except OSError as fault:
+                self.place = self.place_of(hhm, fault)
+                raise
         self.state.begin(self.books)
-        had = [hhm.status().batches for hhm in self.servers]
         batches, queues = self.batches(), [collections.deque() for _ in self.servers]
         with contextlib.ExitStack() as puts:
             ways = [puts.enter_context(contextlib.closing(self.puts(value, taken(batches, queues, queue))))
@@ -554,15 +581,19 @@ class Load:
             raise self.stopped(fault) from None
         except KeyboardInterrupt:
             raise self.interrupted() from None
-        except (OSError, EOFError) as fault:
-            told = f"failed: {self.place}{fault}: what was put counts; load again with the same words"
-            raise Ended(4, told) from None
+        except OSError as fault:
+            raise Ended(4, f"failed: {self.place}{told_of(fault)}: {self.go_on()}") from None
         finally:
             self.progress.clear()
             for hhm in self.servers:
                 hhm.close()
             for file in self.files():
                 file.close()
+
+    def go_on(self) -> str:
+        """What is said where a load ends by a fault that may pass."""
+        counts = "what was put counts" if self.is_sent else "nothing was sent"
+        return f"{counts}; load again with the same words"
 
     def files(self) -> List[Lines]:
         """The files that a load notes names and batches in."""
@@ -605,6 +636,13 @@ class Load:
         if bad:
             self.say(self.tally.told())
         return f"new {self.new} repeats {self.repeats} events {self.events}{skipped}\n"
+
+
+def told_of(fault: Exception) -> str:
+    """A fault in words, without the number of its error."""
+    if not isinstance(fault, OSError) or not fault.strerror:
+        return str(fault)
+    return fault.strerror if fault.filename is None else f"{fault.filename}: {fault.strerror}"
 
 
 def batch_size(word: str) -> int:

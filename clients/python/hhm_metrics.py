@@ -21,7 +21,7 @@ from typing import Any, Dict, Iterable, List, Optional, Tuple
 from urllib.parse import parse_qs, urlsplit
 
 from hhm_client import CODES, Refused, TopRow
-from hhm_figures import LABELLED, Degrees, Moment, Watched, asking, labels_of
+from hhm_figures import KEPT, LABELLED, Degrees, Moment, Watched, asking, labels_of
 from hhm_page import PAGE
 from hhm_values import Value
 from hhm_words import Words, add_options
@@ -62,6 +62,7 @@ HELP = {
     "processor_seconds_total": "Processor time of the server.", "uptime_seconds": "Seconds since the server began.",
     "saves_total": "Saves that were made.", "failed_saves_total": "Saves that failed.",
     "saved_batches": "Batches of the last save.", "save_age_seconds": "Seconds since the last save.",
+    "log_failed": "Whether a call on the log has failed since it was begun.", "book": "The identity of the book.",
     "log_durable_batches": "Batches that the log has on its disk.",
     "durable_batches": "Accepted batches that no crash takes back.", "log_pages": "Pages of the log.",
     "log_syncs_total": "Syncs of the log.", "log_group_batches": "Batches of the log's last group.",
@@ -72,6 +73,7 @@ NUMBERS = {
     "waiting": WAITING, "served": SERVED, "workers": WORKERS, "memory": MEMORY, "saves": SAVES, "failed": FAILED,
     "saved": SAVED, "save_age": SINCE, "log_durable": DURABLE, "log_pages": PAGES, "log_syncs": SYNCS,
     "log_group": GROUP, "log_room": ROOM, "received": RECEIVED, "sent": SENT,
+    "log_failed": ("log_failed",), "limit": ("limit",), "max_batches": ("max_batches",),
 }
 
 
@@ -87,6 +89,9 @@ class Looker:
         self.viewed = 0.0
         # When the server began; the same number as long as its age says so but for some jitter.
         self.start: Optional[float] = None
+        # What refusals, saves and failed saves were, and when each was last seen to rise.
+        self.counts: Dict[str, float] = {}
+        self.rises: Dict[str, float] = {}
         # A moment of each minute of a day. (a list that is replaced, and never changed: another thread may read it)
         self.day: List[Moment] = []
 
@@ -102,6 +107,21 @@ class Looker:
             stats = {name: moment.stats[name] for name in MEMORY if name in moment.stats}
             self.day = [*self.day[1 - MINUTES:], moment._replace(stats=stats)]
 
+    def note_rises(self, moment: Moment) -> None:
+        numbers = {"refused": refused_of(moment), "saves": moment.number(*SAVES), "failed": moment.number(*FAILED)}
+        for name, number in numbers.items():
+            if number is not None and number > self.counts.get(name, number):
+                self.rises[name] = moment.at
+            self.counts[name] = number or 0
+
+    def is_refusing(self) -> bool:
+        """Whether a request was refused in the last ten minutes, as far as was seen."""
+        return time.time() - self.rises.get("refused", 0.0) < KEPT
+
+    def is_unsaved(self) -> bool:
+        """Whether a save has failed, and none was seen to be made since."""
+        return self.counts.get("failed", 0) > 0 and self.rises.get("saves", 0.0) <= self.rises.get("failed", 0.0)
+
     def look(self) -> None:
         try:
             moment = self.seen.look()
@@ -109,6 +129,7 @@ class Looker:
             if age is not None and (self.start is None or abs(moment.at - age - self.start) > JITTER):
                 self.start = moment.at - age
             self.keep(moment)
+            self.note_rises(moment)
             if time.monotonic() - self.viewed < VIEWED:
                 self.top = self.seen.top()
                 degrees = self.seen.degrees()
@@ -169,6 +190,7 @@ def page_stats(looker: Looker, since: float, words: Words) -> Dict[str, Any]:
         "version": last.stats.get("version"), "batches": whole(last.batches()), "total": whole(last.total()),
         "numbers": {**numbers, "refused": refused_of(last)},
         "refused": [it.rsplit(" ", 1) for it in refusals_of(last)],
+        "is_refusing": looker.is_refusing(), "is_unsaved": looker.is_unsaved(),
         "rates": {name: seen.rate(read, BACK) for name, read in rates.items()},
         "layers": [list(it) for it in last.layers()],
         "top": None if looker.top is None else [[whole(number) for number in it] for it in looker.top],

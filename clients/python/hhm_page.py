@@ -50,10 +50,12 @@ caption { text-align: left; font-size: .85rem; }
 th, td { text-align: right; padding: .12rem .5rem; border-bottom: 1px solid var(--faint); white-space: nowrap; }
 th:first-child, td:first-child { text-align: left; }
 th { font-weight: 500; font-size: .85rem; }
+#top td:first-child { white-space: normal; overflow-wrap: anywhere; }
 td.barred { background: linear-gradient(var(--bar), var(--bar)) left / var(--part) 100% no-repeat; }
 details { margin-top: .4rem; } summary { cursor: pointer; color: var(--quiet); font-size: .85rem; }
 label { font-size: .9rem; }
 @media (max-width: 30rem) {
+  #top { order: -1; }
   th, td { padding: .12rem .3rem; font-size: .85rem; }
   td:first-child { white-space: normal; overflow-wrap: anywhere; } }
 </style>
@@ -362,13 +364,17 @@ function drawTiles(now) {
   };
   const told = (key) => now.numbers[key];
   const number = (key) => told(key) === null ? null : big(told(key));
-  tile("Batches", big(now.batches), now.rates.batches === null ? "" : big(now.rates.batches) + " a second");
-  const rise = now.rates.total === null ? "" : brief(now.rates.total).textContent + " a second";
-  tile("Total", brief(now.total), rise);
+  // (batches, or a total, above a limit are refused)
+  const share = (number, key) => told(key) ? Number(number) / Number(told(key)) : 0;
+  const more = (rate, part) => [rate === null ? "" : brief(rate).textContent + " a second",
+    part < 0.5 ? "" : Math.floor(100 * part) + " % of its limit"].filter(Boolean).join(", ");
+  const [full, high] = [share(now.batches, "max_batches"), share(now.total, "limit")];
+  tile("Batches", big(now.batches), more(now.rates.batches, full), full > 0.95);
+  tile("Total", brief(now.total), more(now.rates.total, high), high > 0.95);
   if (now.rates.cells !== null) tile("Cells put", number("cells"), big(now.rates.cells) + " a second");
   tile("Repeats", number("repeats"));
   tile("Refused", number("refused"), now.refused.map((it) => it[0] + " " + big(it[1])).join(", "),
-    told("refused") > 0);
+    now.is_refusing);
   if (told("open") !== null) tile("Sessions", number("open") + " open",
     (told("waiting") === null ? "" : number("waiting") + " waiting, ") +
     (told("served") === null ? "" : number("served") + " served, ") +
@@ -378,7 +384,7 @@ function drawTiles(now) {
   if (told("saves") !== null) {
     const since = told("saved") === null ? "" : big(Math.max(0, now.batches - told("saved"))) + " batches since, ";
     tile("Last save", told("saves") === 0 || told("save_age") === null ? "none" : lasting(told("save_age")) + " ago",
-      since + number("saves") + " saves, " + (number("failed") || "0") + " failed", told("failed") > 0);
+      since + number("saves") + " saves, " + (number("failed") || "0") + " failed", now.is_unsaved);
   }
   for (const [name, key] of [["Received", "received"], ["Sent", "sent"]]) {
     if (told(key) !== null) tile(name, bytes(Number(told(key))),
@@ -386,7 +392,8 @@ function drawTiles(now) {
   }
   if (told("log_durable") !== null) tile("Durable", number("log_durable") + " batches",
     [["log_pages", "pages"], ["log_room", "ready"], ["log_syncs", "syncs"], ["log_group", "in the last group"]]
-      .filter((it) => told(it[0]) !== null).map((it) => number(it[0]) + " " + it[1]).join(", "));
+      .filter((it) => told(it[0]) !== null).map((it) => number(it[0]) + " " + it[1])
+      .concat(told("log_failed") ? ["the log has failed"] : []).join(", "), told("log_failed") > 0);
   at("tiles").replaceChildren(...found.map((it) => el("div", it[3] ? {class: "bad"} : {}, el("dt", {}, it[0]),
     el("dd", {}, it[1], ...(it[2] ? [el("small", {}, it[2])] : [])))));
 }

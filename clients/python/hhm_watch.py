@@ -34,7 +34,7 @@ UPTIME = ("uptime_seconds",)
 SAVES, FAILED, SAVED, SINCE = ("saves_total",), ("failed_saves_total",), ("saved_batches",), ("save_age_seconds",)
 OPEN, WAITING, SERVED, WORKERS = ("sessions_open",), ("sessions_waiting",), ("sessions_total",), ("workers",)
 DURABLE, PAGES, SYNCS, GROUP = ("log_durable_batches", "durable_batches"), ("log_pages",), ("log_syncs_total",), ("log_group_batches",)
-ROOM = ("log_room_pages",)
+ROOM, LOG_FAILED = ("log_room_pages",), ("log_failed",)
 RECEIVED, SENT = ("received_bytes_total",), ("sent_bytes_total",)
 # The widest bar of a layer, and how long a look back a rate takes.
 BAR = 40
@@ -114,6 +114,7 @@ def facts_of(seen: Watched, moment: Moment) -> Iterator[List[str]]:
     yield from saves_of(moment)
     yield pairs(("durable", number(*DURABLE)), ("pages", number(*PAGES)), ("room", number(*ROOM)), ("syncs", number(*SYNCS)),
                 ("last group", number(*GROUP)))
+    yield ["log", "failed"] if number(*LOG_FAILED) else []
     yield ["status", f"{1000 * moment.status_seconds:.2f} ms", "cell", f"{1000 * moment.cell_seconds:.2f} ms"]
 
 

@@ -24,6 +24,8 @@ Address = Union[ipaddress.IPv4Address, ipaddress.IPv6Address]
 Ends = Tuple[Address, Address]
 # How many IPv4 addresses there are, and how many rows a server has at most.
 IPV4, LAST = 1 << 32, 1 << 60
+# The highest number that a server can be asked for.
+MOST = (1 << 64) - 1
 FORMS = "a number, A-B, an address, a network or, by --names, a name"
 
 
@@ -63,6 +65,12 @@ def ends_of(word: str) -> Optional[Ends]:
         return network[0], network[-1]
     first, last = map(address_of, word.partition("-")[::2])
     return (first, last) if first and last and first.version == last.version else None
+
+
+def version_of(word: str) -> Optional[int]:
+    """The version of the addresses that a word means; None of another word."""
+    ends, address = ends_of(word), address_of(word)
+    return ends[0].version if ends else address and address.version
 
 
 def is_number(word: str) -> bool:
@@ -145,7 +153,7 @@ class Words:
         if word in self.numbers:
             return spans_of([self.numbers[word]])
         if is_number(word):
-            return [Span(int(word), int(word))]
+            return [self.judged(word, Span(int(word), int(word)))]
         first, _, last = word.partition("-")
         if is_number(first) and is_number(last):
             return [self.judged(word, Span(int(first), int(last)))]
@@ -173,6 +181,8 @@ class Words:
     def judged(word: str, span: Span) -> Span:
         if span.first > span.last:
             raise Ended(2, f"{word}: the first is after the last")
+        if span.last > MOST:
+            raise Ended(2, f"{word}: rows and columns are from 0 to {LAST - 1}")
         return span
 
     def between(self, word: str, ends: Ends) -> List[Span]:

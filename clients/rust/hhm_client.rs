@@ -696,6 +696,24 @@ impl Client {
         self.read(top_of(&body, most, by))
     }
 
+    /// The first `most` groups, at most `MAX_PAGE`, of these rows. Rows are in one group if their numbers are the same
+    /// without their last `shift` bits, 0 to 63; the number that is left is the group's `row`. The order is that of
+    /// `top`. A server that doesn't know the question refuses it (code 51).
+    pub fn groups(
+        &mut self,
+        rows: RangeInclusive<u64>,
+        shift: u8,
+        most: u64,
+        by: By,
+    ) -> Result<Vec<TopRow>, Error> {
+        let mut frame = vec![0, 0, 0, 26, 18, u8::from(by == By::Entries), shift];
+        for number in [most, *rows.start(), *rows.end()] {
+            frame.extend_from_slice(&number.to_be_bytes());
+        }
+        let body = self.ask(&frame, ROWS)?;
+        self.read(top_of(&body, most, by))
+    }
+
     /// What the server tells of itself: names, of which a program takes those that it knows, and values. One that
     /// doesn't know the question refuses it (code 51).
     pub fn stats(&mut self) -> Result<Vec<(String, String)>, Error> {

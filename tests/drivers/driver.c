@@ -174,12 +174,16 @@ static hhm_result range(hhm_client *hhm, const uint64_t *numbers)
     return result;
 }
 
-static hhm_result top(hhm_client *hhm, const uint64_t *numbers)
+/* A top, or with four numbers more the groups of some rows: by, most, shift, first and last. */
+static hhm_result top(hhm_client *hhm, const uint64_t *numbers, int is_of_groups)
 {
     static hhm_top_row rows[MOST_CELLS];
     static hhm_cell cells[MOST_CELLS];
-    size_t count;
-    hhm_result result = hhm_ask_top(hhm, (hhm_by)numbers[0], rows, (size_t)numbers[1], &count);
+    size_t count, most = (size_t)numbers[1];
+    hhm_by by = (hhm_by)numbers[0];
+    hhm_result result = is_of_groups
+        ? hhm_ask_groups(hhm, by, numbers[3], numbers[4], (unsigned)numbers[2], rows, most, &count)
+        : hhm_ask_top(hhm, by, rows, most, &count);
     for (size_t i = 0; result == HHM_OK && i < count; i++)
         cells[i] = (hhm_cell){rows[i].row, rows[i].entries, rows[i].total};
     if (result == HHM_OK)
@@ -242,7 +246,9 @@ static hhm_result answer(hhm_client *hhm, const char *word, const uint64_t *numb
     if (!strcmp(word, "range"))
         return range(hhm, numbers);
     if (!strcmp(word, "top"))
-        return top(hhm, numbers);
+        return top(hhm, numbers, 0);
+    if (!strcmp(word, "groups"))
+        return top(hhm, numbers, 1);
     if (!strcmp(word, "stats"))
         return stats(hhm);
     if (!strcmp(word, "numbers"))

@@ -79,6 +79,8 @@ def answer(hhm, word, *numbers):
         return threes(hhm.range(numbers[0:2], numbers[2:4], numbers[4]))
     if word == "top":
         return threes(hhm.top(numbers[1], ("total", "entries")[numbers[0]]))
+    if word == "groups":
+        return threes(hhm.groups(numbers[3:5], numbers[2], numbers[1], ("total", "entries")[numbers[0]]))
     if word == "stats":
         return ",".join(f"{name} {value}" for name, value in hhm.stats().items())
     if word in ("fork", "split"):

@@ -144,6 +144,11 @@ fn answer(hhm: &mut Client, word: &str, numbers: &[u64]) -> Result<String, Error
             let rows = hhm.top(most, by)?;
             threes(rows.iter().map(|it| [it.row, it.entries, it.total]))
         }
+        ("groups", &[by, most, shift, first, last]) => {
+            let by = if by == 0 { By::Total } else { By::Entries };
+            let rows = hhm.groups(first..=last, shift as u8, most, by)?;
+            threes(rows.iter().map(|it| [it.row, it.entries, it.total]))
+        }
         ("stats", []) => {
             let stats = hhm.stats()?;
             let lines: Vec<String> = stats.iter().map(|(n, v)| format!("{n} {v}")).collect();

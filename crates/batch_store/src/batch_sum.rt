@@ -14,7 +14,7 @@ use std::mem;
 use std::sync::Arc;
 
 // So many cells of batches are added up before they are added to the matrix, or a quarter of its entries where those are
-// more: an addition goes over all of its blocks.
+// more: an addition writes all of it anew.
 const PART_CELLS: u64 = 1 << 20;
 
 // The sum of a matrix and a list of cells in any order, in which a place may stand more than once.

@@ -1,14 +1,13 @@
 -- Matrices whose rows a test tells apart: the rows of their sum are those of the one and of the other.
 use Rattle.std.proofs.Common.{◌≡◌, ℕ, ◌+◌, ◌<◌, ◌≤◌, ◌%◌, T, Bool, true, false, cond, not, ltb, List, [], ◌∷◌, ◌++◌}
-use Rattle.std.proofs.Common.{Option, Some, None, Ordering, refl, sym, ◌∙◌, ap, subst, inl, inr, arith}
-use Rattle.std.specs.Prelude.{All}
+use Rattle.std.proofs.Common.{Option, Some, None, refl, sym, ◌∙◌, ap, subst, inl, inr, arith}
 use Rattle.std.specs.List.{AllByRecursion, filter}
 use Rattle.std.specs.List.Sorted.{IsPermutation}
 use Rattle.std.specs.FinMap.{get, entries, is_sorted, entries_sorted, get-entries, get-from_sorted, from_sorted}
 use Rattle.std.specs.FinMap.{entries-from_sorted}
 use Rattle.std.specs.FinMap.Entries.{find, find-where_key, is_sorted-where_key}
 use Rattle.std.proofs.lemmas.Bool.{cases_Bool, cases_eq, false≢true, lt-ltb, le-ltb}
-use Rattle.std.proofs.lemmas.List.Elements.{All-append, All-from_recursion, recursion_from_All, All-weaker}
+use Rattle.std.proofs.lemmas.List.Elements.{All-append, All-from_recursion, recursion_from_All}
 use Rattle.std.proofs.lemmas.List.Sorted.{IsPermutation-filter_both, IsPermutation-sym, All-permutation}
 use Rattle.std.specs.Ordering.{eq_by_cmp}
 use Rattle.hyper_rows.specs.Counts.{Place, place_cmp, Counts, plus, ewise_add}

@@ -5,3 +5,4 @@ pub mod DegreeLaws
 pub mod RowLaws
 pub mod OneTop
 pub mod ApartLaws
+pub mod GroupLaws

@@ -1,26 +1,23 @@
 -- What stands in a range of a list in order.
-use Rattle.std.proofs.Common.{◌≡◌, ℕ, zero, suc, ◌+◌, ◌-◌, ◌<◌, ◌≤◌, Bool, true, false, not, ◌&&◌, cond, leb, T, List}
-use Rattle.std.proofs.Common.{[], ◌∷◌, ◌++◌, length, length-drop, map, get_or, take, drop, refl, sym, ◌∙◌, ap, subst}
+use Rattle.std.proofs.Common.{◌≡◌, ℕ, ◌+◌, ◌<◌, ◌≤◌, Bool, true, false, not, ◌&&◌, cond, leb, T, List}
+use Rattle.std.proofs.Common.{[], ◌∷◌, ◌++◌, length, take, refl, sym, ◌∙◌, ap, subst}
 use Rattle.std.proofs.Common.{inl, inr, arith}
 use Rattle.std.specs.Ordering.{is_lt}
 use Rattle.std.specs.FinMap.{is_sorted}
 use Rattle.std.proofs.lemmas.Bool.{lt-leb, leb-true, cases_lt, false≢true, and_left, and_right}
-use Rattle.std.proofs.lemmas.List.{take-append-le, take_all, append-nil, take-append-drop, take_more, drop_more}
-use Rattle.std.proofs.lemmas.List.{drop_all, drop-map, length-map}
-use Rattle.cells.specs.declared.cell.Cell.{Cell}
-use Rattle.hyper_rows.specs.Cells.{entry_of}
+use Rattle.std.proofs.lemmas.List.{take-append-le, take_all, append-nil}
 use Rattle.hyper_rows.specs.Counts.{Place, place_cmp}
 use Rattle.hyper_rows.specs.Places.{Less, AllPlaces}
 use Rattle.hyper_rows.proofs.CountLaws.{T_first, T_second}
-use Rattle.hyper_rows.proofs.PlaceOrderLaws.{all_map, to_all, place_less, sorted_front, sorted_back}
+use Rattle.hyper_rows.proofs.PlaceOrderLaws.{all_map, to_all, place_less}
 use Rattle.cell_queries.specs.declared.range.Span.{Span}
 use Rattle.cell_queries.specs.declared.range.CellRange.{CellRange}
-use Rattle.hyper_rows.specs.Search.{is_before, cells_from, TurnsAt}
-use Rattle.hyper_rows.proofs.SearchLaws.{not_before_row, not_before_same, AllBefore, EndsIn, ends_before}
-use Rattle.hyper_rows.proofs.SkipLaws.{follows_none, none_from, begins_from, sorted_from, fewer_from}
-use Rattle.cell_queries.specs.Ranges.{is_in_span, is_in_range, cells_in, place_at, IsLimit, HasNone}
+use Rattle.hyper_rows.specs.Search.{is_before, cells_from}
+use Rattle.hyper_rows.proofs.SearchLaws.{not_before_row, not_before_same}
+use Rattle.hyper_rows.proofs.SkipLaws.{sorted_from, fewer_from}
+use Rattle.cell_queries.specs.Ranges.{is_in_span, is_in_range, cells_in, IsLimit, HasNone}
 
-behind_span : (s : Span) (n : ℕ) → s.last < n → is_in_span s n ≡ false
+pub behind_span : (s : Span) (n : ℕ) → s.last < n → is_in_span s n ≡ false
 behind_span s n h = and_right (leb s.first n) (leb n s.last) (lt-leb n s.last h)
 
 behind_range : (r : CellRange) (e : Place × ℕ) → r.rows.last < e.0.0 → is_in_range r e ≡ false
@@ -222,43 +219,3 @@ skipped_first r p es new sorted limit skip = (
   subst (λ (l : List (Place × ℕ)). T (is_sorted place_cmp l)) (sym skip) (sorted_from p es sorted),
   ap (cells_in r) skip ∙ in_skipped r p (λ q. Unit {0}) es limit (each_place es),
 )
-
--- cells of a list in order where those before a place end
-pub list_skipped : (es : List (Place × ℕ)) (q : Place) (n : ℕ) → T (is_sorted place_cmp es) →
-    TurnsAt (λ k. is_before (place_at es k) q) (length es) n → drop n es ≡ cells_from q es
-list_skipped es q n sorted t =
-    let whole : es ≡ take n es ++ drop n es = sym (take-append-drop n es) in
-    sym (ap (cells_from q) whole ∙ follows_none q (take n es) (drop n es)
-    (none_from q (take n es) (before n t.before t.within)) ∙ elim (cases_lt n (length es)) [
-      | inl lt ↦
-          let e = get_or es n ((0, 0), 0) in
-          let first : drop n es ≡ e ∷ drop (n + 1) es = drop_more es n ((0, 0), 0) lt in
-          ap (cells_from q) first ∙ begins_from q e (drop (n + 1) es)
-          (subst (λ (l : List (Place × ℕ)). T (is_sorted place_cmp l)) first (sorted_back (take n es) (drop n es)
-          (subst (λ (l : List (Place × ℕ)). T (is_sorted place_cmp l)) whole sorted))) (t.behind lt) ∙ sym first
-      | inr le ↦ ap (cells_from q) (drop_all n es le) ∙ sym (drop_all n es le)
-    ])
-  where
-    before : (k : ℕ) → (0 < k → is_before (place_at es (k - 1)) q ≡ true) → k ≤ length es → AllBefore q (take k es)
-    before zero turn within = tt
-    before (suc k) turn within =
-        let e = get_or es k ((0, 0), 0) in
-        let split : take (suc k) es ≡ take k es ++ e ∷ [] =
-        ap (λ m. take m es) {x = suc k} {y = k + 1} (omega arith) ∙ take_more es k ((0, 0), 0) (omega arith) in
-        let ends : EndsIn (take (suc k) es) e.0 = record { front = take k es; count = e.1; is = split } in
-        ends_before (take (suc k) es) e.0 q ends (sorted_front (take (suc k) es) (drop (suc k) es)
-        (subst (λ (l : List (Place × ℕ)). T (is_sorted place_cmp l)) (sym (take-append-drop (suc k) es)) sorted))
-        (ap (λ m. is_before (place_at es m) q) {x = k} {y = suc k - 1} (omega arith) ∙ turn (omega arith))
-
-pub listed_skipped : (cells : List Cell) (left : List (Place × ℕ)) (q : Place) (n : ℕ) → map entry_of cells ≡ left →
-    T (is_sorted place_cmp left) →
-    TurnsAt (λ k. is_before (place_at (map entry_of cells) k) q) (length cells) n →
-    map entry_of (take (length cells - n) (drop n cells)) ≡ cells_from q left
-listed_skipped cells left q n told sorted t =
-    let count : length (map entry_of cells) ≡ length cells = length-map cells entry_of in
-    ap (map entry_of) (take_all (length cells - n) (drop n cells) (omega (arith, length-drop n cells)))
-    ∙ sym (drop-map entry_of n cells)
-    ∙ list_skipped (map entry_of cells) q n
-    (subst (λ (l : List (Place × ℕ)). T (is_sorted place_cmp l)) (sym told) sorted)
-    (subst (λ m. TurnsAt (λ k. is_before (place_at (map entry_of cells) k) q) m n) (sym count) t)
-    ∙ ap (cells_from q) told

@@ -66,10 +66,21 @@ joined_rise t (u ∷ us) from rise = elim (cases_eq u.row t.row) [
     above : t.row ≤ u.row → (u.row ≡ t.row → ⊥) → t.row < u.row
     above le other = elim (cases_eq u.row t.row) [ inl same ↦ absurd (other same) | inr differ ↦ strictly le differ ]
 
+-- no cell is in a row below that of the one before
+abbrev pub NeverFall : List (Place × ℕ) → Type 0
+NeverFall [] = Unit {0}
+NeverFall (e ∷ es) = AllPlaces (λ p. e.0.0 ≤ p.0) es × NeverFall es
+
+pub never_fall : (es : List (Place × ℕ)) → T (is_sorted place_cmp es) → NeverFall es
+never_fall [] h = tt
+never_fall (e ∷ es) h = (not_lower e es h, never_fall es (T_second _ _ h))
+
+pub rise_of : (es : List (Place × ℕ)) → NeverFall es → RowsRise (tallies es)
+rise_of [] h = tt
+rise_of (e ∷ es) h = joined_rise (tally e.0.0 1 e.1) (tallies es) (all_rows (λ r. e.0.0 ≤ r) es h.0) (rise_of es h.1)
+
 pub rows_rise : (es : List (Place × ℕ)) → T (is_sorted place_cmp es) → RowsRise (tallies es)
-rows_rise [] h = tt
-rows_rise (e ∷ es) h = joined_rise (tally e.0.0 1 e.1) (tallies es)
-    (all_rows (λ r. e.0.0 ≤ r) es (not_lower e es h)) (rows_rise es (T_second _ _ h))
+rows_rise es h = rise_of es (never_fall es h)
 
 -- a cell of another row changes nothing of a row
 cell_of_row : (r : ℕ) (e : Place × ℕ) (es : List (Place × ℕ)) → e.0.0 ≡ r → row_cells r (e ∷ es) ≡ e ∷ row_cells r es
@@ -190,7 +201,10 @@ rows_told (e ∷ es) = (
   all_have_still (tally e.0.0 1 e.1) (tallies es) es (rows_told es),
 )
 
+pub right_of : (es : List (Place × ℕ)) → NeverFall es → AllByRecursion (IsRight es) (tallies es)
+right_of [] h = tt
+right_of (e ∷ es) h = joined_right e es (tallies es) refl h.0 (rise_of es h.1) (all_rows (λ r. e.0.0 ≤ r) es h.0)
+    (right_of es h.1) (rows_told es)
+
 pub rows_right : (es : List (Place × ℕ)) → T (is_sorted place_cmp es) → AllByRecursion (IsRight es) (tallies es)
-rows_right [] h = tt
-rows_right (e ∷ es) h = joined_right e es (tallies es) refl (not_lower e es h) (rows_rise es (T_second _ _ h))
-    (all_rows (λ r. e.0.0 ≤ r) es (not_lower e es h)) (rows_right es (T_second _ _ h)) (rows_told es)
+rows_right es h = right_of es (never_fall es h)

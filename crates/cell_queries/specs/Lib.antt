@@ -5,3 +5,5 @@ pub mod Tops
 pub mod Heaps
 pub mod Degrees
 pub mod Shards
+pub mod Groups
+pub mod Gathering

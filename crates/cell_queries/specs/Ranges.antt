@@ -3,10 +3,9 @@
 --                         it
 --     cells_in r es       the cells of the range
 --     page_of r most es   the first of them
---     place_at es k       the place of the cell k
 --     IsLimit r p Q       of the places that Q holds of, none is in the range before p
 --     HasNone r Q         of these places, none is in the range
-use Rattle.std.specs.Prelude.{◌≡◌, ℕ, Bool, true, false, ◌&&◌, not, nat_le, List, take, slice_index_or}
+use Rattle.std.specs.Prelude.{◌≡◌, ℕ, Bool, true, false, ◌&&◌, not, nat_le, List, take}
 use Rattle.std.specs.List.{filter}
 use Rattle.std.specs.Ordering.{is_lt}
 use Rattle.hyper_rows.specs.Counts.{Place, place_cmp}
@@ -24,9 +23,6 @@ cells_in r es = filter (is_in_range r) es
 
 abbrev pub page_of : CellRange → ℕ → List (Place × ℕ) → List (Place × ℕ)
 page_of r most es = take most (cells_in r es)
-
-abbrev pub place_at : List (Place × ℕ) → ℕ → Place
-place_at es k = (slice_index_or es k ((0, 0), 0)).0
 
 abbrev pub IsLimit : CellRange → Place → (Place → Type 0) → Type 0
 IsLimit r p Q = (e : Place × ℕ) → Q e.0 → is_in_range r e ≡ true → is_lt (place_cmp e.0 p) ≡ false

@@ -4,8 +4,10 @@ ghost use Rattle.std.specs.List.{AllByRecursion, Contains};
 ghost use Rattle.std.specs.List.Sorted.{IsPermutation};
 ghost use Rattle.std.specs.FinMap.{entries, is_sorted};
 ghost use Rattle.hyper_rows.specs.Counts.{Place, place_cmp, Counts, ewise_add};
+ghost use Rattle.cell_queries.specs.declared.groups.RowGroups.{RowGroups};
 ghost use Rattle.cell_queries.specs.declared.tally.RowTally.{RowTally};
 ghost use Rattle.cell_queries.specs.declared.top.TopBy.{TopBy};
+ghost use Rattle.cell_queries.specs.Groups.{grouped};
 ghost use Rattle.cell_queries.specs.Rows.{HasRow, IsRight, RowsRise};
 ghost use Rattle.cell_queries.specs.Shards.{LieBelow, LieInShard};
 ghost use Rattle.cell_queries.specs.Tallies.{tallies};
@@ -24,6 +26,17 @@ pub fn rows_tell_entries_and_totals()
 /// The row of each cell is one of them.
 pub fn every_row_is_told()
     ensures { (es : List (Place × ℕ)) → AllByRecursion (λ e. HasRow e.0.0 (tallies es)) es }
+{}
+
+/// Of cells in order each group of rows stands once, and the groups rise.
+pub fn groups_stand_once()
+    ensures { (g : RowGroups) (es : List (Place × ℕ)) → T (is_sorted place_cmp es) → RowsRise (tallies (grouped g es)) }
+{}
+
+/// Each group has an entry, and its numbers are those of its cells.
+pub fn groups_have_their_cells()
+    ensures { (g : RowGroups) (es : List (Place × ℕ)) → T (is_sorted place_cmp es) →
+        AllByRecursion (IsRight (grouped g es)) (tallies (grouped g es)) }
 {}
 
 /// Where a test tells the rows of two matrices apart, the rows of their sum are those of the one and of the other.

@@ -1,14 +1,10 @@
 //! The cells of a list as a source.
-ghost use Rattle.std.specs.Prelude.{◌≡◌, T, map, length};
-ghost use Rattle.std.specs.FinMap.{is_sorted};
+ghost use Rattle.std.specs.Prelude.{◌≡◌, map};
 ghost use Rattle.hyper_rows.specs.Cells.{entry_of};
-ghost use Rattle.hyper_rows.specs.Counts.{place_cmp};
-ghost use Rattle.hyper_rows.specs.Search.{TurnsAt, is_before};
-ghost use Rattle.cell_queries.specs.Ranges.{place_at};
 
 use crate::source::CellSource;
 use cells::Cell;
-use hyper_rows::{is_before, partition_point};
+use hyper_matrix::count_before;
 use std::marker::Model;
 
 /// The cells of a list that are still to come. It borrows the list.
@@ -36,16 +32,6 @@ impl<'a> ListedCells<'a> {
     }
 }
 
-// How many cells of a list in order come before a place.
-fn cells_before(cells: &[Cell], place: (u64, u64)) -> usize
-    ensures { TurnsAt (λ k. is_before (place_at (map entry_of cells.now) k) place) (length cells.now) result }
-{
-    partition_point(
-        cells.len(),
-        |k| is_before((cells[k].row, cells[k].col), place),
-    )
-}
-
 impl CellSource for ListedCells<'_> {
     ghost left = { λ cells. cells };
 
@@ -56,7 +42,7 @@ impl CellSource for ListedCells<'_> {
     }
 
     fn skip_to_place(&mut self, place: (u64, u64)) {
-        let passed = cells_before(self.cells, place);
+        let passed = count_before(self.cells, place);
         self.cells = &self.cells[passed..];
     }
 }

@@ -17,7 +17,7 @@ pub struct RowTally {
 
 impl RowTally {
     // A row with one cell.
-    fn of(cell: Cell) -> RowTally
+    pub(crate) fn of(cell: Cell) -> RowTally
         ensures { result ≡ tally cell.row 1 cell.count }
     {
         RowTally {
@@ -28,7 +28,7 @@ impl RowTally {
     }
 
     // The row with a cell more, where the numbers stay below 2^64.
-    fn with(self, cell: Cell) -> Option<RowTally>
+    pub(crate) fn with(self, cell: Cell) -> Option<RowTally>
         ensures { IfSome result (λ t. t ≡ tally self.row (self.entries + 1) (self.total + cell.count)) }
     {
         Some(RowTally {

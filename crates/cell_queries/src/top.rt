@@ -164,7 +164,7 @@ impl Leaders {
     }
 
     // Offers one row more.
-    fn offer(&mut self, row: RowTally) -> Result<(), AllocError>
+    pub(crate) fn offer(&mut self, row: RowTally) -> Result<(), AllocError>
         ensures { (by : TopBy) (most : ℕ) (rows : List RowTally) → AreLed by most rows self.old →
             OnOk result (AreLed by most (rows ++ row ∷ []) self.new) }
     {

@@ -1,35 +1,33 @@
--- The part of a matrix in one shard: its entries, its total, and the blocks that hold it; and the parts in all shards.
-use Rattle.std.proofs.Common.{T, ◌≡◌, ℕ, zero, suc, ◌+◌, ◌-◌, ◌<◌, ◌≤◌, ◌^◌, Bool, true, false, cond, List, [], ◌∷◌}
-use Rattle.std.proofs.Common.{◌++◌, map, take, drop, get_or, length, replicate, Option, None, Ordering, refl, sym, ◌∙◌}
-use Rattle.std.proofs.Common.{ap, subst, arith, inl, inr, length-append}
+-- The part of a matrix in one shard: its entries, its total, and the cells that build it; and the parts in all shards.
+use Rattle.std.proofs.Common.{T, ◌≡◌, ℕ, zero, suc, ◌+◌, ◌-◌, ◌%◌, ◌<◌, ◌≤◌, ◌≢◌, Bool, true, false, cond, List, []}
+use Rattle.std.proofs.Common.{◌∷◌, ◌++◌, map, take, drop, get_or, set, length, Option, None, Ordering, refl, sym, ◌∙◌}
+use Rattle.std.proofs.Common.{ap, subst, arith, inl, inr, length-append, length-take, length-drop, length-set}
+use Rattle.std.proofs.Common.{get_or-set_same, get_or-set_other}
 use Rattle.std.proofs.Math.ListN.{get_or-append}
-use Rattle.std.proofs.Math.Seq.{take-add, get_or-append_seam}
-use Rattle.std.proofs.lemmas.Bool.{cases_lt}
-use Rattle.std.proofs.lemmas.List.{drop_more, take-append-drop, take-append-le, take_all}
-use Rattle.std.specs.declared.vec.Vec.{Vec}
+use Rattle.std.proofs.Math.Seq.{get_or-append_seam}
+use Rattle.std.proofs.lemmas.Bool.{cases_lt, cases_eq, cases_order, eq-eqb, ne_eqb}
+use Rattle.std.proofs.lemmas.List.{take-append-drop, take_all, take_more, append-nil, same_lists, get_or-take, get_or-drop}
+use Rattle.std.proofs.lemmas.List.Elements.{filter-append}
+use Rattle.std.proofs.lemmas.Nat.{mod_below}
 use Rattle.std.specs.List.{AllByRecursion, slice_range}
 use Rattle.std.specs.FinMap.{empty, entries, get, is_sorted, get-entries, get-from_sorted, entries_sorted, from_sorted}
-use Rattle.std.specs.FinMap.{entries-from_sorted, from_entries, get-empty}
+use Rattle.std.specs.FinMap.{entries-from_sorted, from_entries}
 use Rattle.std.specs.FinMap.Entries.{find-where_key, is_sorted-where_key}
+use Rattle.cells.specs.Bounds.{AreWithin}
+use Rattle.cells.specs.Order.{Rise}
 use Rattle.cells.specs.declared.cell.Cell.{Cell}
 use Rattle.hyper_rows.specs.Counts.{Place, place_cmp, Counts, count_sum, total, built, part, in_part, plus, ewise_add}
-use Rattle.hyper_rows.specs.Rows.{Rows, cells_of}
-use Rattle.hyper_rows.specs.Cells.{entry_of, built_of, cell_total}
-use Rattle.hyper_rows.specs.Parts.{part_entries, listed, with_parts}
+use Rattle.hyper_rows.specs.Cells.{entry_of, place_of, built_of, cell_total}
+use Rattle.hyper_rows.specs.Parts.{part_entries}
 use Rattle.hyper_rows.proofs.CountLaws.{exact_places, same_counts, get-part, get-built, gathered-rising, parts_whole}
-use Rattle.hyper_rows.proofs.CountLaws.{ewise_add_comm, ewise_add-empty, get-ewise_add, total-built, built-append}
+use Rattle.hyper_rows.proofs.CountLaws.{ewise_add_comm, ewise_add-empty, get-ewise_add}
 use Rattle.hyper_rows.proofs.SortedListLaws.{entries-in_order, built-in_order}
-use Rattle.hyper_rows.proofs.SearchLaws.{sum-append}
-use Rattle.hyper_rows.proofs.PlaceOrderLaws.{rises, sorted_front, sorted_back}
+use Rattle.hyper_rows.proofs.PlaceOrderLaws.{rises, sorted_rising}
 use Rattle.hyper_rows.proofs.BuiltOfLaws.{entries_total}
-use Rattle.hyper_rows.proofs.PartLaws.{with_parts-append}
 use Rattle.hyper_matrix.specs.Matrix.{Matrix, matrix}
-use Rattle.hyper_matrix.specs.Blocks.{all_cells}
-use Rattle.hyper_matrix.specs.Shared.{shared_counts, LiesWithin, Holds}
-use Rattle.hyper_matrix.specs.Parts.{shard_part, parts_below, IsAddable, AreAddable, with_lists}
-use Rattle.hyper_matrix.proofs.BlockLaws.{all_cells-append}
-use Rattle.hyper_matrix.proofs.SumLaws.{part_cells, built-nil}
-use Rattle.hyper_matrix.proofs.MatrixLaws.{kept_total, cells_within}
+use Rattle.hyper_matrix.specs.Shared.{LiesWithin}
+use Rattle.hyper_matrix.specs.Parts.{shard_part, parts_below, shard_cells, count_below, InLine}
+use Rattle.hyper_matrix.proofs.MatrixLaws.{cells_within, entries_within}
 
 alike : (s k : ℕ) (q x : Place) → place_cmp q x ≡ Ordering.Equal → in_part s k x ≡ in_part s k q
 alike s k q x same = ap (in_part s k) (sym (exact_places q x same))
@@ -83,15 +81,6 @@ part_sum-le s k (e ∷ es) = by (in_part s k e.0) refl (part_sum-le s k es)
     by true h rest = omega (arith, part_sum-more s k e es h, rest)
     by false h rest = omega (arith, part_sum-same s k e es h, rest)
 
--- what holds of all entries holds of the first of them, and of the last
-all_first : (P : Place × ℕ → Type 0) (xs ys : List (Place × ℕ)) → AllByRecursion P (xs ++ ys) → AllByRecursion P xs
-all_first P [] ys h = tt
-all_first P (x ∷ xs) ys h = (h.0, all_first P xs ys h.1)
-
-all_last : (P : Place × ℕ → Type 0) (xs ys : List (Place × ℕ)) → AllByRecursion P (xs ++ ys) → AllByRecursion P ys
-all_last P [] ys h = h
-all_last P (x ∷ xs) ys h = all_last P xs ys h.1
-
 -- what holds of all entries holds of those in the shard
 all_part : (P : Place × ℕ → Type 0) (s k : ℕ) (es : List (Place × ℕ)) → AllByRecursion P es →
     AllByRecursion P (part_entries s k es)
@@ -102,47 +91,6 @@ all_part P s k (e ∷ es) h = by (in_part s k e.0) (all_part P s k es h.1)
         AllByRecursion P (cond b (e ∷ part_entries s k es) (part_entries s k es))
     by true rest = (h.0, rest)
     by false rest = rest
-
--- a list, read as another, of the cells that were appended to none
-pub listed_part : (s k : ℕ) (list cells none : List Cell) (read blocks : List Rows) → list ≡ cells → none ≡ [] →
-    read ≡ blocks → map entry_of cells ≡ map entry_of none ++ part_entries s k (all_cells read) →
-    map entry_of list ≡ part_entries s k (all_cells blocks)
-listed_part s k list cells none read blocks is nothing same told =
-    ap (map entry_of) is ∙ told ∙ (λ j. map entry_of (nothing j) ++ part_entries s k (all_cells (same j)))
-
--- a list of the cells of blocks that lie in the shard
-module _ (r c sum s k : ℕ) (a : List Rows) (h : Holds r c sum a) (cells : List Cell)
-    (is : map entry_of cells ≡ part_entries s k (all_cells a)) where
-  pub part_sorted : T (is_sorted place_cmp (map entry_of cells))
-  part_sorted = subst (λ (es : List (Place × ℕ)). T (is_sorted place_cmp es)) (sym is)
-      (is_sorted-where_key place_cmp (in_part s k) (all_cells a) h.sorted)
-
-  pub part_within : AllByRecursion (LiesWithin r c) (map entry_of cells)
-  part_within = subst (AllByRecursion (LiesWithin r c)) (sym is) (all_part (LiesWithin r c) s k (all_cells a) h.within)
-
-  pub part_fits : cell_total cells ≤ total (shared_counts a)
-  part_fits = omega (
-    arith,
-    entries_total cells,
-    ap count_sum is,
-    part_sum-le s k (all_cells a),
-    h.kept,
-    kept_total r c sum a h,
-  )
-
-  pub part_built : built_of cells ≡ part (shared_counts a) s k
-  part_built = ap built (is ∙ ap (part_entries s k) (sym (entries-in_order (all_cells a) h.sorted))
-      ∙ sym (entries-part (shared_counts a) s k)) ∙ built-entries (part (shared_counts a) s k)
-
--- the cells of a block more, in the lists of their shards
-pub block_listed : (k i : ℕ) (blocks : List Rows) (block read : Rows) (old new : List (List (Place × ℕ))) →
-    i < length blocks → block ≡ get_or blocks i block → read ≡ block → new ≡ with_parts 0 k old (cells_of read) →
-    with_parts 0 k new (all_cells (drop (i + 1) blocks)) ≡ with_parts 0 k old (all_cells (drop i blocks))
-block_listed k i blocks block read old new within item same is =
-    let rest = all_cells (drop (i + 1) blocks) in
-    ap (λ ls. with_parts 0 k ls rest) (is ∙ ap (λ b. with_parts 0 k old (cells_of b)) (same ∙ item))
-    ∙ with_parts-append 0 k old (cells_of (get_or blocks i block)) rest
-    ∙ ap (λ bs. with_parts 0 k old (all_cells bs)) (sym (drop_more blocks i block within))
 
 -- a part more
 pub parts_more : (n k : ℕ) (m p : Matrix) (before after : List Matrix) → before ≡ parts_below n k m →
@@ -163,155 +111,12 @@ part-ewise_add a b s k = same_counts _ _ (λ q.
     both true x y = refl
     both false x y = refl
 
--- the part of nothing
-part-empty : (s k : ℕ) → part empty s k ≡ empty
-part-empty s k = same_counts _ _ (λ q. get-part empty s k q ∙
-    ap (λ (o : Option ℕ). cond (in_part s k q) o None) (get-empty place_cmp q) ∙ either (in_part s k q) None ∙
-    sym (get-empty place_cmp q))
-  where
-    either : (b : Bool) (o : Option ℕ) → cond b o o ≡ o
-    either true o = refl
-    either false o = refl
-
--- an empty part more
-pub empty_more : (n k r c : ℕ) (p : Matrix) (before after : List Matrix) → before ≡ parts_below n k (matrix r c empty) →
-    p ≡ matrix r c empty → after ≡ before ++ p ∷ [] → after ≡ parts_below (n + 1) k (matrix r c empty)
-empty_more n k r c p before after so_far is told = parts_more n k (matrix r c empty) p before after so_far
-    (is ∙ ap (matrix r c) (sym (part-empty n k))) told
-
--- the parts of no cells
-pub no_cells_yet : (k r c : ℕ) (parts : List Matrix) (blocks : List Rows) → parts ≡ parts_below k k (matrix r c empty) →
-    parts ≡ parts_below k k (matrix r c (built (all_cells (take 0 blocks))))
-no_cells_yet k r c parts blocks is = is ∙ ap (λ (m : Counts). parts_below k k (matrix r c m)) (sym built-nil)
-
 -- the entries of a shard build the part of what all of them build
 built-part : (s k : ℕ) (es : List (Place × ℕ)) → T (is_sorted place_cmp es) →
     built (part_entries s k es) ≡ part (built es) s k
 built-part s k es sorted =
     ap built (ap (part_entries s k) (sym (entries-in_order es sorted)) ∙ sym (entries-part (from_entries es) s k))
     ∙ built-entries (part (from_entries es) s k) ∙ ap (λ m. part m s k) (sym (built-in_order es sorted))
-
--- the parts in the n shards from s on
-abbrev parts_from : ℕ → ℕ → ℕ → Matrix → List Matrix
-parts_from s zero k m = []
-parts_from s (suc n) k m = shard_part s k m ∷ parts_from (s + 1) n k m
-
-parts_from-more : (s n k : ℕ) (m : Matrix) →
-    parts_from s (suc n) k m ≡ parts_from s n k m ++ shard_part (s + n) k m ∷ []
-parts_from-more s zero k m = ap (λ i. shard_part i k m ∷ []) {x = s} {y = s + zero} (omega arith)
-parts_from-more s (suc n) k m = ap (λ ps. shard_part s k m ∷ ps) (parts_from-more (s + 1) n k m ∙
-    ap (λ i. parts_from (s + 1) n k m ++ shard_part i k m ∷ []) {x = s + 1 + n} {y = s + suc n} (omega arith))
-
-below_from : (n k : ℕ) (m : Matrix) → parts_below n k m ≡ parts_from 0 n k m
-below_from zero k m = refl
-below_from (suc n) k m = ap (λ ps. ps ++ shard_part n k m ∷ []) (below_from n k m) ∙
-    ap (λ i. parts_from 0 n k m ++ shard_part i k m ∷ []) {x = n} {y = 0 + n} (omega arith) ∙
-    sym (parts_from-more 0 n k m)
-
-total_part-le : (m : Counts) (s k : ℕ) → total (part m s k) ≤ total m
-total_part-le m s k = omega (arith, total-part m s k, total-entries m, part_sum-le s k (entries m))
-
--- lists of the cells es, which stand in order within a matrix
-module _ {Z : Type 0} (k r c : ℕ) (a : Counts) (es : List (Place × ℕ)) (sorted : T (is_sorted place_cmp es))
-    (within : AllByRecursion (LiesWithin r c) es) (fits : total a + count_sum es < 2 ^ 64) where
-  module _ (s : ℕ) (list : Vec Cell Z) (is : map entry_of list.items ≡ part_entries s k es) where
-    list_addable : IsAddable (shard_part s k (matrix r c a)) list.items
-    list_addable = record {
-      rises = rises list.items (subst (λ (l : List (Place × ℕ)). T (is_sorted place_cmp l)) (sym is)
-          (is_sorted-where_key place_cmp (in_part s k) es sorted));
-      within = cells_within r c list.items (subst (AllByRecursion (LiesWithin r c)) (sym is)
-          (all_part (LiesWithin r c) s k es within));
-      fits = omega (
-        arith,
-        total_part-le a s k,
-        entries_total list.items,
-        ap count_sum is,
-        part_sum-le s k es,
-        fits,
-      );
-    }
-
-    list_added : ewise_add (part a s k) (built_of list.items) ≡ part (ewise_add a (built es)) s k
-    list_added = ap (λ (b : Counts). ewise_add (part a s k) b) (ap built is ∙ built-part s k es sorted) ∙
-        sym (part-ewise_add a (built es) s k)
-
-  lists_addable : (s n : ℕ) (lists : List (Vec Cell Z)) → listed lists ≡ with_parts s k (replicate n []) es →
-      AreAddable (parts_from s n k (matrix r c a)) lists
-  lists_addable s zero lists are = tt
-  lists_addable s (suc n) [] are = tt
-  lists_addable s (suc n) (l ∷ ls) are = (
-    list_addable s l (ap (λ (x : List (List (Place × ℕ))). get_or x 0 []) are),
-    lists_addable (s + 1) n ls (ap (λ (x : List (List (Place × ℕ))). drop 1 x) are),
-  )
-
-  lists_added : (s n : ℕ) (lists : List (Vec Cell Z)) → listed lists ≡ with_parts s k (replicate n []) es →
-      with_lists (parts_from s n k (matrix r c a)) lists ≡ parts_from s n k (matrix r c (ewise_add a (built es)))
-  lists_added s zero lists are = refl
-  lists_added s (suc n) [] are = absurd (cc)
-  lists_added s (suc n) (l ∷ ls) are =
-      let first = list_added s l (ap (λ (x : List (List (Place × ℕ))). get_or x 0 []) are) in
-      let rest = lists_added (s + 1) n ls (ap (λ (x : List (List (Place × ℕ))). drop 1 x) are) in
-      λ i. matrix r c (first i) ∷ rest i
-
-pub length-with_lists : {Z : Type 0} (ms : List Matrix) (ls : List (Vec Cell Z)) → length (with_lists ms ls) ≡ length ms
-length-with_lists [] ls = refl
-length-with_lists (m ∷ ms) [] = refl
-length-with_lists (m ∷ ms) (l ∷ ls) = ap suc (length-with_lists ms ls)
-
--- what a vector has after all of its n items were written
-pub all_written : (n : ℕ) (new old : List Matrix) → length new ≡ n → take n (new ++ drop (length new) old) ≡ new
-all_written n new old is = take-append-le n new (drop (length new) old) (omega (arith, is)) ∙
-    take_all n new (omega (arith, is))
-
--- the cells of a run of blocks, in lists for each shard, behind those of the blocks before it
-module _ {Z : Type 0} (k r c : ℕ) (blocks : List Rows) (from to : ℕ) (order : from ≤ to)
-    (sorted : T (is_sorted place_cmp (all_cells blocks))) (within : AllByRecursion (LiesWithin r c) (all_cells blocks))
-    (fits : count_sum (all_cells blocks) < 2 ^ 64) (parts : List Matrix) (lists : List (Vec Cell Z))
-    (parts_are : parts ≡ parts_below k k (matrix r c (built (all_cells (take from blocks)))))
-    (lists_are : listed lists ≡ with_parts 0 k (replicate k []) (all_cells (slice_range blocks from to))) where
-  abbrev before : List (Place × ℕ)
-  before = all_cells (take from blocks)
-
-  abbrev run : List (Place × ℕ)
-  run = all_cells (slice_range blocks from to)
-
-  abbrev behind : List (Place × ℕ)
-  behind = all_cells (drop to blocks)
-
-  whole : all_cells blocks ≡ before ++ (run ++ behind)
-  whole = ap all_cells (sym (take-append-drop from blocks)) ∙ all_cells-append (take from blocks) (drop from blocks) ∙
-      ap (λ (es : List (Place × ℕ)). before ++ es) (part_cells blocks from to order)
-
-  run_sorted : T (is_sorted place_cmp run)
-  run_sorted = sorted_front run behind (sorted_back before (run ++ behind)
-      (subst (λ (es : List (Place × ℕ)). T (is_sorted place_cmp es)) whole sorted))
-
-  run_within : AllByRecursion (LiesWithin r c) run
-  run_within = all_first (LiesWithin r c) run behind (all_last (LiesWithin r c) before (run ++ behind)
-      (subst (AllByRecursion (LiesWithin r c)) whole within))
-
-  run_fits : total (built before) + count_sum run < 2 ^ 64
-  run_fits = omega (
-    arith,
-    total-built before,
-    ap count_sum whole,
-    sum-append before (run ++ behind),
-    sum-append run behind,
-    fits,
-  )
-
-  pub run_addable : AreAddable parts lists
-  run_addable = subst (λ ps. AreAddable ps lists) (sym (parts_are ∙ below_from k k (matrix r c (built before))))
-      (lists_addable k r c (built before) run run_sorted run_within run_fits 0 k lists lists_are)
-
-  pub run_added : with_lists parts lists ≡ parts_below k k (matrix r c (built (all_cells (take to blocks))))
-  run_added = ap (λ ps. with_lists ps lists) (parts_are ∙ below_from k k (matrix r c (built before)))
-      ∙ lists_added k r c (built before) run run_sorted run_within run_fits 0 k lists lists_are
-      ∙ sym (below_from k k (matrix r c (ewise_add (built before) (built run))))
-      ∙ ap (λ (m : Counts). parts_below k k (matrix r c m)) (sym (built-append before run)
-      ∙ ap built (sym (all_cells-append (take from blocks) (slice_range blocks from to))
-      ∙ ap all_cells (sym (take-add from (to - from) blocks)
-      ∙ ap (λ n. take n blocks) {x = from + (to - from)} {y = to} (omega arith))))
 
 pub length-parts_below : (n k : ℕ) (m : Matrix) → length (parts_below n k m) ≡ n
 length-parts_below zero k m = refl
@@ -348,3 +153,320 @@ parts-one k m p none after one is nothing told =
     told ∙ (λ j. nothing j ++ is j ∷ [])
     ∙ ap (λ c. matrix m.rows m.cols c ∷ []) (sym (part-whole m.counts 0 1 (omega arith) refl))
     ∙ (λ j. parts_below (sym one j) (sym one j) m)
+
+-- the cells of a shard
+
+pub entries-shard : (s k : ℕ) (cells : List Cell) →
+    map entry_of (shard_cells s k cells) ≡ part_entries s k (map entry_of cells)
+entries-shard s k [] = refl
+entries-shard s k (x ∷ cells) = step (in_part s k (place_of x)) (entries-shard s k cells)
+  where
+    step : (b : Bool) → map entry_of (shard_cells s k cells) ≡ part_entries s k (map entry_of cells) →
+        map entry_of (cond b (x ∷ shard_cells s k cells) (shard_cells s k cells)) ≡
+        cond b (entry_of x ∷ part_entries s k (map entry_of cells)) (part_entries s k (map entry_of cells))
+    step true rest = ap (λ (l : List (Place × ℕ)). entry_of x ∷ l) rest
+    step false rest = rest
+
+module _ (s k : ℕ) (cells : List Cell) (in_order : Rise cells) where
+  pub shard_rises : Rise (shard_cells s k cells)
+  shard_rises = rises (shard_cells s k cells) (subst (λ (es : List (Place × ℕ)). T (is_sorted place_cmp es))
+      (sym (entries-shard s k cells))
+      (is_sorted-where_key place_cmp (in_part s k) (map entry_of cells) (sorted_rising cells in_order)))
+
+  pub shard_built : built_of (shard_cells s k cells) ≡ part (built_of cells) s k
+  shard_built = ap built (entries-shard s k cells) ∙
+      built-part s k (map entry_of cells) (sorted_rising cells in_order)
+
+pub shard_within : (s k r c : ℕ) (cells : List Cell) → AreWithin r c cells → AreWithin r c (shard_cells s k cells)
+shard_within s k r c cells within = cells_within r c (shard_cells s k cells)
+    (subst (AllByRecursion (LiesWithin r c)) (sym (entries-shard s k cells))
+    (all_part (LiesWithin r c) s k (map entry_of cells) (entries_within r c cells within)))
+
+pub shard_total : (s k : ℕ) (cells : List Cell) → cell_total (shard_cells s k cells) ≤ cell_total cells
+shard_total s k cells = omega (
+  arith,
+  entries_total (shard_cells s k cells),
+  ap count_sum (entries-shard s k cells),
+  part_sum-le s k (map entry_of cells),
+  entries_total cells,
+)
+
+-- the part that a shard's cells build, as part s of the matrix
+pub is_part : (s k r c : ℕ) (cells : List Cell) (p : Matrix) → Rise cells →
+    p ≡ matrix r c (built_of (shard_cells s k cells)) → p ≡ shard_part s k (matrix r c (built_of cells))
+is_part s k r c cells p in_order is = is ∙ ap (matrix r c) (shard_built s k cells in_order)
+
+-- how many cells the shards have
+
+module _ (k : ℕ) (x : Cell) (cells : List Cell) where
+  one_in : (s : ℕ) → x.row % k ≡ s → length (shard_cells s k (x ∷ cells)) ≡ suc (length (shard_cells s k cells))
+  one_in s is = ap (λ b. length (cond b (x ∷ shard_cells s k cells) (shard_cells s k cells))) (eq-eqb (x.row % k) s is)
+
+  one_out : (s : ℕ) → (x.row % k ≡ s → ⊥) → length (shard_cells s k (x ∷ cells)) ≡ length (shard_cells s k cells)
+  one_out s n = ap (λ b. length (cond b (x ∷ shard_cells s k cells) (shard_cells s k cells))) (ne_eqb (x.row % k) s n)
+
+  below_out : (n : ℕ) → n ≤ x.row % k → count_below n k (x ∷ cells) ≡ count_below n k cells
+  below_out zero h = refl
+  below_out (suc n) h = omega (arith, below_out n (omega arith), one_out n (λ e. omega arith))
+
+  below_in : (n : ℕ) → x.row % k < n → count_below n k (x ∷ cells) ≡ suc (count_below n k cells)
+  below_in zero h = absurd (omega arith)
+  below_in (suc n) h = elim (cases_lt (x.row % k) n) [
+    | inl less ↦ omega (arith, below_in n less, one_out n (λ e. omega arith))
+    | inr le ↦ omega (arith, below_out n le, one_in n (omega arith))
+  ]
+
+pub none_below : (n k : ℕ) → count_below n k [] ≡ 0
+none_below zero k = refl
+none_below (suc n) k = omega (arith, none_below n k)
+
+pub count_all : (k : ℕ) (cells : List Cell) → 0 < k → count_below k k cells ≡ length cells
+count_all k [] h = none_below k k
+count_all k (x ∷ cells) h = omega (arith, below_in k x cells k (mod_below x.row k h), count_all k cells h)
+
+pub below_le : (m n k : ℕ) (cells : List Cell) → m ≤ n → count_below m k cells ≤ count_below n k cells
+below_le zero n k cells h = omega arith
+below_le (suc m) zero k cells h = absurd (omega arith)
+below_le (suc m) (suc n) k cells h = elim (cases_lt m n) [
+  | inl less ↦ omega (arith, below_le (suc m) n k cells (omega arith))
+  | inr le ↦
+      let same : m ≡ n = omega arith in
+      omega (arith, ap (λ i. count_below (suc i) k cells) same)
+]
+
+pub below_next : (s k : ℕ) (cells : List Cell) →
+    count_below (s + 1) k cells ≡ count_below s k cells + length (shard_cells s k cells)
+below_next s k cells = ap (λ n. count_below n k cells) {x = s + 1} {y = suc s} (omega arith)
+
+-- the cell at i is x
+module _ (k : ℕ) (cells : List Cell) (i : ℕ) (x : Cell) (lt : i < length cells) (at_i : x ≡ get_or cells i x) where
+  -- one cell more, in its shard alone
+  split_here : (s : ℕ) → shard_cells s k (take (i + 1) cells) ≡
+      shard_cells s k (take i cells) ++ shard_cells s k (x ∷ [])
+  split_here s = ap (shard_cells s k) (take_more cells i x lt ∙
+      ap (λ (y : Cell). take i cells ++ y ∷ []) (sym at_i))
+      ∙ filter-append (λ (c : Cell). in_part s k (place_of c)) (take i cells) (x ∷ [])
+
+  pub more_here : (s : ℕ) → x.row % k ≡ s → shard_cells s k (take (i + 1) cells) ≡
+      shard_cells s k (take i cells) ++ x ∷ []
+  more_here s is = split_here s ∙ ap (λ b. shard_cells s k (take i cells) ++ cond b (x ∷ []) [])
+      (eq-eqb (x.row % k) s is)
+
+  pub same_other : (s : ℕ) → (x.row % k ≡ s → ⊥) → shard_cells s k (take (i + 1) cells) ≡
+      shard_cells s k (take i cells)
+  same_other s n = split_here s ∙ ap (λ b. shard_cells s k (take i cells) ++ cond b (x ∷ []) [])
+      (ne_eqb (x.row % k) s n) ∙ append-nil (shard_cells s k (take i cells))
+
+pub shard_split : (s k i : ℕ) (cells : List Cell) →
+    length (shard_cells s k cells) ≡ length (shard_cells s k (take i cells)) + length (shard_cells s k (drop i cells))
+shard_split s k i cells = ap (λ (l : List Cell). length (shard_cells s k l)) (sym (take-append-drop i cells)) ∙
+    ap length (filter-append (λ (c : Cell). in_part s k (place_of c)) (take i cells) (drop i cells)) ∙
+    length-append (shard_cells s k (take i cells)) (shard_cells s k (drop i cells))
+
+-- the first i cells are counted
+abbrev pub Counted : ℕ → List ℕ → List Cell → ℕ → Type 0
+Counted k counts cells i = (s : ℕ) → s < k → get_or counts s 0 ≡ length (shard_cells s k (take i cells))
+
+pub count_more : (k : ℕ) (counts : List ℕ) (cells : List Cell) (i s : ℕ) (x : Cell) → i < length cells →
+    x ≡ get_or cells i x → s ≡ x.row % k → s < length counts → Counted k counts cells i →
+    Counted k (set counts s (get_or counts s 0 + 1)) cells (i + 1)
+count_more k counts cells i s x lt at_i is within so_far t below = elim (cases_eq t s) [
+  | inl same ↦
+      ap (λ n. get_or (set counts s (get_or counts s 0 + 1)) n 0) same
+      ∙ get_or-set_same counts s (get_or counts s 0 + 1) 0 within
+      ∙ omega (
+        arith,
+        ap (λ n. get_or counts n 0) same,
+        so_far t below,
+        ap length (more_here k cells i x lt at_i t (sym is ∙ sym same)),
+        length-append (shard_cells t k (take i cells)) (x ∷ []),
+      )
+  | inr other ↦
+      get_or-set_other counts s t (get_or counts s 0 + 1) 0 other ∙ so_far t below
+      ∙ sym (ap length (same_other k cells i x lt at_i t (λ e. other (sym e ∙ sym is))))
+]
+
+-- the first i cells stand in line, in the places of their shards, and `next` has the next place of each shard
+pub record PutInLine (k : ℕ) (line : List Cell) (next : List ℕ) (cells : List Cell) (i : ℕ) : Type 0 where
+  pub room : length line ≡ length cells
+  pub places : length next ≡ k
+  pub next_is : (s : ℕ) → s < k → get_or next s 0 ≡ count_below s k cells + length (shard_cells s k (take i cells))
+  pub put : (s j : ℕ) (d : Cell) → s < k → j < length (shard_cells s k (take i cells)) →
+      get_or line (count_below s k cells + j) d ≡ get_or (shard_cells s k (take i cells)) j d
+
+pub line_begins : (k : ℕ) (line : List Cell) (next : List ℕ) (cells : List Cell) → length line ≡ length cells →
+    length next ≡ k → ((s : ℕ) → s < k → get_or next s 0 ≡ count_below s k cells) → PutInLine k line next cells 0
+line_begins k line next cells room places begins = record {
+  room = room;
+  places = places;
+  next_is = λ s h. omega (arith, begins s h);
+  put = λ s j d h g. absurd (omega arith);
+}
+
+module _ (k : ℕ) (line : List Cell) (next : List ℕ) (cells : List Cell) (i s at : ℕ) (x : Cell) (lt : i < length cells)
+    (at_i : x ≡ get_or cells i x) (is : s ≡ x.row % k) (below : s < k) (at_is : at ≡ get_or next s 0)
+    (so_far : PutInLine k line next cells i) where
+  here : shard_cells s k (take (i + 1) cells) ≡ shard_cells s k (take i cells) ++ x ∷ []
+  here = more_here k cells i x lt at_i s (sym is)
+
+  next_place : at ≡ count_below s k cells + length (shard_cells s k (take i cells))
+  next_place = at_is ∙ so_far.next_is s below
+
+  pub in_shard : at < count_below (s + 1) k cells
+  in_shard = omega (
+    arith,
+    next_place,
+    below_next s k cells,
+    shard_split s k (i + 1) cells,
+    ap length here,
+    length-append (shard_cells s k (take i cells)) (x ∷ []),
+  )
+
+  pub in_line : at < length line
+  in_line =
+      let some : 0 < k = omega arith in
+      omega (arith, in_shard, below_le (s + 1) k k cells (omega arith), count_all k cells some, so_far.room)
+
+  -- a place of another shard
+  elsewhere : (t j : ℕ) → (t ≡ s → ⊥) → j < length (shard_cells t k (take i cells)) → count_below t k cells + j ≢ at
+  elsewhere t j other h same = elim (cases_order t s) [
+    | inl e ↦ other e
+    | inr (inl less) ↦
+        omega (
+          arith,
+          h,
+          same,
+          shard_split t k i cells,
+          below_next t k cells,
+          below_le (t + 1) s k cells (omega arith),
+          next_place,
+        )
+    | inr (inr more) ↦ omega (arith, same, in_shard, below_le (s + 1) t k cells (omega arith))
+  ]
+
+  put_more : (t j : ℕ) (d : Cell) → t < k → j < length (shard_cells t k (take (i + 1) cells)) →
+      get_or (set line at x) (count_below t k cells + j) d ≡ get_or (shard_cells t k (take (i + 1) cells)) j d
+  put_more t j d h g = elim (cases_eq t s) [
+    | inl same ↦ subst (λ (u : ℕ). j < length (shard_cells u k (take (i + 1) cells)) →
+        get_or (set line at x) (count_below u k cells + j) d ≡ get_or (shard_cells u k (take (i + 1) cells)) j d)
+        (sym same) (λ g. own g) g
+    | inr other ↦
+        let stays = same_other k cells i x lt at_i t (λ e. other (sym e ∙ sym is)) in
+        let h2 : j < length (shard_cells t k (take i cells)) = omega (arith, g, ap length stays) in
+        get_or-set_other line at (count_below t k cells + j) x d (elsewhere t j other h2)
+        ∙ so_far.put t j d h h2 ∙ ap (λ (l : List Cell). get_or l j d) (sym stays)
+  ]
+    where
+      own : j < length (shard_cells s k (take (i + 1) cells)) →
+          get_or (set line at x) (count_below s k cells + j) d ≡ get_or (shard_cells s k (take (i + 1) cells)) j d
+      own g = elim (cases_lt j (length (shard_cells s k (take i cells)))) [
+        | inl less ↦
+            let apart : count_below s k cells + j ≢ at = λ e. omega (arith, e, next_place) in
+            get_or-set_other line at (count_below s k cells + j) x d apart
+            ∙ so_far.put s j d below less
+            ∙ sym (get_or-append (shard_cells s k (take i cells)) (x ∷ []) d j less)
+            ∙ ap (λ (l : List Cell). get_or l j d) (sym here)
+        | inr le ↦
+            let last : j ≡ length (shard_cells s k (take i cells)) = omega (
+              arith,
+              g,
+              ap length here,
+              length-append (shard_cells s k (take i cells)) (x ∷ []),
+            ) in
+            ap (λ n. get_or (set line at x) n d) {x = count_below s k cells + j} {y = at} (omega (arith, last, next_place))
+            ∙ get_or-set_same line at x d in_line
+            ∙ sym (get_or-append_seam (shard_cells s k (take i cells)) x [] d)
+            ∙ ap (λ n. get_or (shard_cells s k (take i cells) ++ x ∷ []) n d) (sym last)
+            ∙ ap (λ (l : List Cell). get_or l j d) (sym here)
+      ]
+
+  next_more : (t : ℕ) → t < k → get_or (set next s (at + 1)) t 0 ≡
+      count_below t k cells + length (shard_cells t k (take (i + 1) cells))
+  next_more t h = elim (cases_eq t s) [
+    | inl same ↦
+        ap (λ n. get_or (set next s (at + 1)) n 0) same
+        ∙ get_or-set_same next s (at + 1) 0 (omega (arith, so_far.places))
+        ∙ omega (
+          arith,
+          next_place,
+          ap length here,
+          length-append (shard_cells s k (take i cells)) (x ∷ []),
+          ap (λ n. count_below n k cells + length (shard_cells n k (take (i + 1) cells))) same,
+        )
+    | inr other ↦
+        get_or-set_other next s t (at + 1) 0 other ∙ so_far.next_is t h
+        ∙ ap (λ (l : List Cell). count_below t k cells + length l)
+        (sym (same_other k cells i x lt at_i t (λ e. other (sym e ∙ sym is))))
+  ]
+
+  pub line_more : PutInLine k (set line at x) (set next s (at + 1)) cells (i + 1)
+  line_more = record {
+    room = omega (arith, length-set line at x, so_far.room);
+    places = omega (arith, length-set next s (at + 1), so_far.places);
+    next_is = next_more;
+    put = put_more;
+  }
+
+module _ (k : ℕ) (line : List Cell) (next : List ℕ) (cells : List Cell) (i : ℕ) (all : length cells ≤ i)
+    (done : PutInLine k line next cells i) where
+  taken : take i cells ≡ cells
+  taken = take_all i cells all
+
+  pub line_ends : (s : ℕ) → s < k → get_or next s 0 ≡ count_below (s + 1) k cells
+  line_ends s h = done.next_is s h ∙
+      ap (λ (l : List Cell). count_below s k cells + length (shard_cells s k l)) taken ∙ sym (below_next s k cells)
+
+  pub in_line_all : InLine k line cells
+  in_line_all s h =
+      let from = count_below s k cells in
+      let to = count_below (s + 1) k cells in
+      let some : 0 < k = omega arith in
+      let bound : to ≤ length line = omega (
+        arith,
+        below_le (s + 1) k k cells (omega arith),
+        count_all k cells some,
+        done.room,
+      ) in
+      let long : length (slice_range line from to) ≡ length (shard_cells s k cells) = omega (
+        arith,
+        length-take (to - from) (drop from line),
+        length-drop from line,
+        below_next s k cells,
+        bound,
+      ) in
+      same_lists (slice_range line from to) (shard_cells s k cells) long (λ j d g.
+      get_or-take (to - from) (drop from line) j d (omega (arith, g, long, below_next s k cells))
+      ∙ get_or-drop from line j d
+      ∙ done.put s j d h (omega (arith, g, long, ap (λ (l : List Cell). length (shard_cells s k l)) taken))
+      ∙ ap (λ (l : List Cell). get_or (shard_cells s k l) j d) taken)
+
+-- a list of the cells that were appended to none
+pub listed_part : (s k : ℕ) (list none read cells : List Cell) → none ≡ [] → read ≡ cells →
+    list ≡ none ++ shard_cells s k read → list ≡ shard_cells s k cells
+listed_part s k list none read cells nothing same told =
+    told ∙ (λ j. nothing j ++ shard_cells s k (same j))
+
+-- no more of the first i cells are in a shard than there are
+few_in : (s k : ℕ) (cells : List Cell) → length (shard_cells s k cells) ≤ length cells
+few_in s k [] = omega arith
+few_in s k (x ∷ cells) = elim (in_part s k (place_of x)) as
+    (λ t. length (cond t (x ∷ shard_cells s k cells) (shard_cells s k cells)) ≤ suc (length cells)) [
+      | true ↦ omega (arith, few_in s k cells)
+      | false ↦ omega (arith, few_in s k cells)
+    ]
+
+pub few_taken : (s k i : ℕ) (cells : List Cell) → length (shard_cells s k (take i cells)) ≤ i
+few_taken s k i cells = omega (arith, few_in s k (take i cells), length-take i cells)
+
+-- the places of shard i in the line
+module _ (k i from to : ℕ) (cells line : List Cell) (lt : i < k) (from_is : from ≡ count_below i k cells)
+    (to_is : to ≡ count_below (i + 1) k cells) (all : length line ≡ length cells) (in_line : InLine k line cells) where
+  pub cut_range : (from ≤ to) × (to ≤ length line)
+  cut_range =
+      let some : 0 < k = omega arith in (
+        omega (arith, from_is, to_is, below_next i k cells),
+        omega (arith, to_is, below_le (i + 1) k k cells (omega arith), count_all k cells some, all),
+      )
+
+  pub cut_is : slice_range line from to ≡ shard_cells i k cells
+  cut_is = (λ j. slice_range line (from_is j) (to_is j)) ∙ in_line i lt

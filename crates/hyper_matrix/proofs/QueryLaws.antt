@@ -1,31 +1,26 @@
--- What the blocks of a matrix give the look-ups in it.
-use Rattle.std.proofs.Common.{◌≡◌, ℕ, zero, suc, ◌<◌, ◌≤◌, ◌⊎◌, true, false, cond, eqb, T, List, [], ◌∷◌, length}
-use Rattle.std.proofs.Common.{Option, Some, None, sym, ◌∙◌, ap, subst, refl, inl, inr, arith}
+-- What the cells of a matrix give the look-ups in it.
+use Rattle.std.proofs.Common.{◌≡◌, ℕ, zero, suc, ◌<◌, ◌≤◌, ◌⊎◌, true, false, cond, eqb, List, [], ◌∷◌}
+use Rattle.std.proofs.Common.{map, Option, Some, None, sym, ◌∙◌, ap, subst, refl, inl, inr, arith}
 use Rattle.std.specs.List.{slice_get, AllByRecursion}
-use Rattle.std.specs.FinMap.{entries, len, len-entries, is_sorted, find, get, get-from_entries, get-empty, empty}
-use Rattle.hyper_rows.specs.Counts.{Place, Counts, place_cmp, count_sum, total}
-use Rattle.hyper_matrix.specs.Matrix.{Matrix, matrix}
-use Rattle.hyper_rows.specs.Rows.{Rows}
-use Rattle.hyper_matrix.specs.Blocks.{all_cells, AreBlocks}
-use Rattle.hyper_matrix.specs.BlockSearch.{HaveRows, map_of}
-use Rattle.hyper_rows.specs.Search.{IsRowSum}
-use Rattle.hyper_matrix.specs.RowOf.{row_of, IsFirst, HasNoneFrom}
-use Rattle.hyper_matrix.specs.Shared.{LiesWithin}
-use Rattle.hyper_rows.specs.Cells.{entry_of}
-use Rattle.hyper_matrix.specs.declared.row_sum.Entry.{Entry}
+use Rattle.std.specs.FinMap.{entries, len, find, get, get-empty, empty}
 use Rattle.cells.specs.declared.cell.Cell.{Cell}
+use Rattle.hyper_rows.specs.Counts.{Place, Counts, place_cmp, total}
+use Rattle.hyper_rows.specs.Cells.{entry_of, built_of}
+use Rattle.hyper_rows.specs.Search.{IsRowSum}
+use Rattle.hyper_matrix.specs.Matrix.{Matrix, matrix}
+use Rattle.hyper_matrix.specs.RowOf.{row_of, IsFirst, HasNoneFrom}
+use Rattle.hyper_matrix.specs.Shared.{LiesWithin, Holds}
+use Rattle.hyper_matrix.specs.declared.row_sum.Entry.{Entry}
 use Rattle.std.specs.Prelude.{IfSome, MatchOption}
 use Rattle.std.specs.Option.{option_map}
 use Rattle.std.specs.Ordering.{eq_by_cmp}
 use Rattle.std.proofs.lemmas.Bool.{cases_eq, eq-eqb, ne_eqb}
-use Rattle.std.proofs.lemmas.Option.{none-some, same_Some}
-use Rattle.hyper_rows.proofs.CountLaws.{places_total, exact_places, same_counts}
-use Rattle.hyper_matrix.proofs.BlockSearchLaws.{is_equal}
-use Rattle.hyper_matrix.proofs.RowOfLaws.{get-row_of, entries-map_of, len-row_of, total-row_of}
-
-pub have_rows : (blocks : List Rows) → AreBlocks blocks → HaveRows blocks
-have_rows [] h = tt
-have_rows (block ∷ blocks) h = (h.0.some, have_rows blocks h.1)
+use Rattle.std.proofs.lemmas.Option.{none-some, same_Some, slice_get-map}
+use Rattle.hyper_rows.proofs.CountLaws.{exact_places, same_counts}
+use Rattle.hyper_rows.proofs.PlaceOrderLaws.{sorted_rising}
+use Rattle.hyper_matrix.proofs.MatrixLaws.{entries-built, entries_within}
+use Rattle.hyper_matrix.proofs.SearchLaws.{is_equal, held}
+use Rattle.hyper_matrix.proofs.RowOfLaws.{get-row_of, len-row_of, total-row_of}
 
 -- a cell that is found lies within the dimensions, as all do
 found_within : (rows cols : ℕ) (q : Place) (n : ℕ) (es : List (Place × ℕ)) → AllByRecursion (LiesWithin rows cols) es →
@@ -45,42 +40,30 @@ listed_within rows cols zero e (x ∷ es) h is = subst (λ (y : Place × ℕ). (
     (same_Some _ _ is) h.0
 listed_within rows cols (suc i) e (x ∷ es) h is = listed_within rows cols i e es h.1 is
 
--- a matrix's blocks as they are read, with its view
-module _ (read blocks : List Rows) (rows cols : ℕ) (m : Matrix) (is : read ≡ blocks)
-    (view : matrix rows cols (map_of (all_cells blocks)) ≡ m) where
-  pub counts_are : map_of (all_cells read) ≡ m.counts
-  counts_are = ap (λ (b : List Rows). map_of (all_cells b)) is ∙ ap (λ (x : Matrix). x.counts) view
+-- a matrix's cells with its view
+module _ (cells : List Cell) (rows cols sum : ℕ) (m : Matrix) (view : matrix rows cols (built_of cells) ≡ m)
+    (holds : Holds rows cols sum cells) where
+  pub counts_are : built_of cells ≡ m.counts
+  counts_are = ap (λ (x : Matrix). x.counts) view
 
-  module _ (sorted : T (is_sorted place_cmp (all_cells blocks))) where
-    read_sorted : T (is_sorted place_cmp (all_cells read))
-    read_sorted = subst (λ (b : List Rows). T (is_sorted place_cmp (all_cells b))) (sym is) sorted
+  pub entries_are : entries m.counts ≡ map entry_of cells
+  entries_are = ap entries (sym counts_are) ∙ entries-built cells holds.rises
 
-    pub entries_are : entries m.counts ≡ all_cells read
-    entries_are = ap entries (sym counts_are) ∙ entries-map_of (all_cells read) read_sorted
+  pub row_count_is : (r n s : ℕ) → IsRowSum r (map entry_of cells) n s → n ≡ len (row_of m.counts r)
+  row_count_is r n s h = len-row_of m.counts (map entry_of cells) r n s entries_are h
 
-    pub length_is : (n : ℕ) → n ≡ len m.counts → n ≡ length (all_cells read)
-    length_is n e = e ∙ len-entries m.counts ∙ ap length entries_are
+  pub row_total_is : (r n s : ℕ) → IsRowSum r (map entry_of cells) n s → s ≡ total (row_of m.counts r)
+  row_total_is r n s h = total-row_of m.counts (map entry_of cells) r n s entries_are h
 
-    pub sum_is : total m.counts ≡ count_sum (all_cells read)
-    unfolding total
-    sum_is = ap count_sum entries_are
+  pub cell_is : (o : Option Cell) (i : ℕ) → o ≡ slice_get cells i →
+      option_map entry_of o ≡ slice_get (entries m.counts) i
+  cell_is o i e = ap (option_map entry_of) e ∙ sym (slice_get-map entry_of cells i) ∙
+      ap (λ (l : List (Place × ℕ)). slice_get l i) (sym entries_are)
 
-    pub row_count_is : (r n s : ℕ) → IsRowSum r (all_cells read) n s → n ≡ len (row_of m.counts r)
-    row_count_is r n s h = len-row_of (all_cells read) r n s read_sorted h ∙
-        ap (λ (x : Counts). len (row_of x r)) counts_are
+  -- the cells lie within the dimensions
+  lie_within : AllByRecursion (LiesWithin rows cols) (map entry_of cells)
+  lie_within = entries_within rows cols cells holds.within
 
-    pub row_total_is : (r n s : ℕ) → IsRowSum r (all_cells read) n s → s ≡ total (row_of m.counts r)
-    row_total_is r n s h = total-row_of (all_cells read) r n s read_sorted h ∙
-        ap (λ (x : Counts). total (row_of x r)) counts_are
-
-    pub cell_is : (o : Option (Place × ℕ)) (i : ℕ) → o ≡ slice_get (all_cells read) i →
-        o ≡ slice_get (entries m.counts) i
-    cell_is o i e = e ∙ ap (λ (l : List (Place × ℕ)). slice_get l i) (sym entries_are)
-
--- the cells of a matrix lie within its dimensions
-module _ (blocks : List Rows) (rows cols : ℕ) (m : Matrix) (view : matrix rows cols (map_of (all_cells blocks)) ≡ m)
-    (sorted : T (is_sorted place_cmp (all_cells blocks))) (within : AllByRecursion (LiesWithin rows cols)
-    (all_cells blocks)) where
   in_matrix : (p : Place) → (p.0 < rows) × (p.1 < cols) → (p.0 < m.rows) × (p.1 < m.cols)
   in_matrix p h = (
     omega (arith, h.0, ap (λ (x : Matrix). x.rows) view),
@@ -88,8 +71,9 @@ module _ (blocks : List Rows) (rows cols : ℕ) (m : Matrix) (view : matrix rows
   )
 
   stands_within : (q : Place) (n : ℕ) → get m.counts q ≡ Some n → (q.0 < m.rows) × (q.1 < m.cols)
-  stands_within q n is = in_matrix q (found_within rows cols q n (all_cells blocks) within
-      (sym (get-from_entries places_total (all_cells blocks) q) ∙ ap (λ (x : Matrix). get x.counts q) view ∙ is))
+  stands_within q n is = in_matrix q (found_within rows cols q n (map entry_of cells) lie_within
+      (sym (held (map entry_of cells) (sorted_rising cells holds.rises) q) ∙
+      ap (λ (x : Counts). get x q) counts_are ∙ is))
 
   pub none_outside : (r c : ℕ) → (m.rows ≤ r) ⊎ (m.cols ≤ c) → get m.counts (r, c) ≡ None
   none_outside r c out = elim (get m.counts (r, c)) as (λ o. get m.counts (r, c) ≡ o → o ≡ None) [
@@ -107,11 +91,12 @@ module _ (blocks : List Rows) (rows cols : ℕ) (m : Matrix) (view : matrix rows
           none_outside q.0 q.1 (inl (omega arith))
       nothing q (inr other) = ap (λ b. cond b (get m.counts q) None) (ne_eqb q.0 r other)
 
-  pub cell_within : (o : Option Cell) (i : ℕ) → option_map entry_of o ≡ slice_get (all_cells blocks) i →
+  pub cell_within : (o : Option Cell) (i : ℕ) → option_map entry_of o ≡ slice_get (entries m.counts) i →
       IfSome o (λ cell. (cell.row < m.rows) × (cell.col < m.cols))
   cell_within None i is = tt
   cell_within (Some cell) i is = in_matrix (cell.row, cell.col)
-      (listed_within rows cols i (entry_of cell) (all_cells blocks) within (sym is))
+      (listed_within rows cols i (entry_of cell) (map entry_of cells) lie_within
+      (ap (λ (l : List (Place × ℕ)). slice_get l i) (sym entries_are) ∙ sym is))
 
   pub entry_within : (o : Option Entry) (r from : ℕ) → MatchOption o (HasNoneFrom m.counts r from)
       (IsFirst m.counts r from) → IfSome o (λ entry. (r < m.rows) × (entry.col < m.cols))

@@ -2,14 +2,13 @@
 use Rattle.std.proofs.Common.{◌≡◌, ℕ, ◌+◌, Bool, true, false, cond, T, eqb, List, length, Option, None, Ordering, sym}
 use Rattle.std.proofs.Common.{◌∙◌, ap, refl}
 use Rattle.std.specs.FinMap.{get, entries, len, len-entries, is_sorted, get-entries, get-retain_keys, get-from_sorted}
-use Rattle.std.specs.FinMap.{entries_sorted, from_sorted, entries-from_sorted, get-from_entries}
+use Rattle.std.specs.FinMap.{entries_sorted, from_sorted, entries-from_sorted}
 use Rattle.std.specs.FinMap.Entries.{find-where_key, is_sorted-where_key}
 use Rattle.std.proofs.lemmas.Bool.{eq-eqb, ne_eqb}
 use Rattle.hyper_rows.specs.Counts.{Place, place_cmp, Counts, plus, count_sum, total, ewise_add}
 use Rattle.hyper_rows.specs.Search.{row_cells, IsRowSum}
-use Rattle.hyper_matrix.specs.BlockSearch.{map_of}
 use Rattle.hyper_matrix.specs.RowOf.{row_of}
-use Rattle.hyper_rows.proofs.CountLaws.{places_total, exact_places, same_counts, get-ewise_add, total-ewise_add}
+use Rattle.hyper_rows.proofs.CountLaws.{exact_places, same_counts, get-ewise_add, total-ewise_add}
 
 -- whether a place is in row r
 abbrev in_row : ℕ → Place → Bool
@@ -32,22 +31,16 @@ entries-row_of m r =
     ∙ sym (get-from_sorted place_cmp kept q sorted ∙ find-where_key place_cmp (in_row r) q (alike r q) (entries m))))
     ∙ entries-from_sorted place_cmp kept sorted
 
--- the map of sorted cells has them as its entries
-pub entries-map_of : (es : List (Place × ℕ)) → T (is_sorted place_cmp es) → entries (map_of es) ≡ es
-entries-map_of es sorted = ap entries (same_counts (map_of es) (from_sorted es)
-    (λ q. get-from_entries places_total es q ∙ sym (get-from_sorted place_cmp es q sorted))) ∙
-    entries-from_sorted place_cmp es sorted
+-- a row's entries counted and summed up, in a list of all entries
+pub len-row_of : (m : Counts) (es : List (Place × ℕ)) (r n s : ℕ) → entries m ≡ es → IsRowSum r es n s →
+    n ≡ len (row_of m r)
+len-row_of m es r n s is h = h.counted ∙ sym (len-entries (row_of m r) ∙
+    ap length (entries-row_of m r ∙ ap (row_cells r) is))
 
-pub len-row_of : (es : List (Place × ℕ)) (r n m : ℕ) → T (is_sorted place_cmp es) → IsRowSum r es n m →
-    n ≡ len (row_of (map_of es) r)
-len-row_of es r n m sorted s = s.counted ∙ sym (len-entries (row_of (map_of es) r) ∙
-    ap length (entries-row_of (map_of es) r ∙ ap (row_cells r) (entries-map_of es sorted)))
-
-pub total-row_of : (es : List (Place × ℕ)) (r n m : ℕ) → T (is_sorted place_cmp es) → IsRowSum r es n m →
-    m ≡ total (row_of (map_of es) r)
+pub total-row_of : (m : Counts) (es : List (Place × ℕ)) (r n s : ℕ) → entries m ≡ es → IsRowSum r es n s →
+    s ≡ total (row_of m r)
 unfolding total
-total-row_of es r n m sorted s = s.summed ∙ sym (ap count_sum
-    (entries-row_of (map_of es) r ∙ ap (row_cells r) (entries-map_of es sorted)))
+total-row_of m es r n s is h = h.summed ∙ sym (ap count_sum (entries-row_of m r ∙ ap (row_cells r) is))
 
 -- a row of a sum is the sum of the rows
 pub row_of-ewise_add : (a b : Counts) (r : ℕ) → row_of (ewise_add a b) r ≡ ewise_add (row_of a r) (row_of b r)

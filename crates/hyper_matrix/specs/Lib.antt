@@ -1,9 +1,11 @@
 pub use Rattle.hyper_rows.specs.Counts
 pub use Rattle.hyper_rows.specs.Cells
 pub mod Matrix
-pub mod Blocks
+pub mod Pieces
 pub mod Shared
+pub mod Merge
 pub mod Parts
-pub mod BlockSearch
+pub mod Places
 pub mod RowOf
 pub mod Refusals
+pub mod ListSum

@@ -1,30 +1,19 @@
--- A matrix's cells in shared blocks.
-use Rattle.std.specs.Prelude.{◌≡◌, ◌<◌, ℕ, List, T}
-use Rattle.std.specs.List.{AllByRecursion}
-use Rattle.std.specs.FinMap.{from_entries, is_sorted}
-use Rattle.cells.specs.Bounds.{IsDimension}
-use Rattle.hyper_rows.specs.Counts.{Place, place_cmp, Counts, count_sum}
-use Rattle.hyper_rows.specs.Rows.{Rows}
-use Rattle.hyper_matrix.specs.Blocks.{all_cells, AreBlocks, ends_from}
-
--- the finite map that blocks stand for
-abbrev pub shared_counts : List Rows → Counts
-shared_counts blocks = from_entries (all_cells blocks)
+-- A matrix's cells in a list.
+use Rattle.std.specs.Prelude.{◌≡◌, ◌<◌, ℕ, List}
+use Rattle.cells.specs.Bounds.{IsDimension, AreWithin}
+use Rattle.cells.specs.Order.{Rise}
+use Rattle.cells.specs.declared.cell.Cell.{Cell}
+use Rattle.hyper_rows.specs.Counts.{Place}
+use Rattle.hyper_rows.specs.Cells.{cell_total}
 
 -- an entry at a place within these dimensions
 abbrev pub LiesWithin : ℕ → ℕ → Place × ℕ → Type 0
 LiesWithin rows cols e = (e.0.0 < rows) × (e.0.1 < cols)
 
--- blocks as a matrix of these dimensions and this total keeps them
-pub record Holds (rows cols sum : ℕ) (blocks : List Rows) : Type 0 where
+-- cells as a matrix of these dimensions and this total keeps them: each place once, by row and then by column
+pub record Holds (rows cols sum : ℕ) (cells : List Cell) : Type 0 where
   pub is_rows : IsDimension rows
   pub is_cols : IsDimension cols
-  pub are_blocks : AreBlocks blocks
-  pub sorted : T (is_sorted place_cmp (all_cells blocks))
-  pub within : AllByRecursion (LiesWithin rows cols) (all_cells blocks)
-  pub kept : sum ≡ count_sum (all_cells blocks)
-
--- the same, with the number of cells up to each block beside them
-pub record Keeps (rows cols sum : ℕ) (blocks : List Rows) (ends : List ℕ) : Type 0 where
-  pub holds : Holds rows cols sum blocks
-  pub told : ends ≡ ends_from 0 blocks
+  pub rises : Rise cells
+  pub within : AreWithin rows cols cells
+  pub kept : sum ≡ cell_total cells

@@ -1,25 +1,23 @@
 //! Hypersparse matrices of counts: sums of counted cells, exactly, in dimensions of up to 2^60 by 2^60.
 //!
-//! The operations are those of GraphBLAS C API 2.0 over UINT64 with plus. Only nonempty rows take memory. The matrix
-//! lies in blocks of some hundred cells that matrices share, so that adding a small matrix to a large one costs the
-//! blocks that it touches (`sum`). Blocks end between cells and not between rows, so one long row costs no more a cell
-//! than many short ones.
+//! The operations are those of GraphBLAS C API 2.0 over UINT64 with plus. Only the entries take memory: a matrix is a
+//! list of its cells by row and then by column, or a piece of such a list that several matrices share. So a copy is a
+//! pointer, a look-up a bisection, a sum a merge of two lists, and the parts of a matrix are pieces of one list.
 #![tactic(auto)]
 
-mod block;
-mod block_search;
-mod blocks;
 mod cell_iter;
 mod hyper;
 mod judge;
 mod laws;
 mod limits;
+mod list_sum;
+mod merge;
+mod piece;
 mod refusal_laws;
+mod rising;
 mod row_laws;
 mod row_sum;
-mod split;
-mod split_run;
-mod sum;
+mod search;
 
 pub use cell_iter::Cells;
 pub use hyper::Hyper;
@@ -29,8 +27,12 @@ pub use laws::{
     built_lists_add, built_names_places, built_sums_counts, built_total, empty_is_identity,
     parts_make_the_whole, sums_at_places, sums_commute, sums_regroup, totals_add,
 };
+pub use list_sum::sum_of_lists;
+pub use merge::push_merged;
 pub use refusal_laws::{indices_are_refused, other_lists_are_taken, sums_are_refused};
+pub use rising::push_merged_neighbours;
 pub use row_laws::{
     row_totals_add, rows_have_no_others, rows_keep_their_entries, rows_of_sums_add,
 };
 pub use row_sum::Entry;
+pub use search::count_before;

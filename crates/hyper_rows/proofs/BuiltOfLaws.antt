@@ -7,17 +7,10 @@ use Rattle.hyper_rows.specs.Counts.{Place, plus, count_at, ewise_add, built, tot
 use Rattle.cells.specs.Sums.{sum_at, stands_at}
 use Rattle.hyper_rows.specs.Cells.{entry_of, built_of, cell_total, cells_at}
 use Rattle.cells.specs.declared.cell.Cell.{Cell}
-use Rattle.std.specs.FinMap.{get, get-from_entries, empty}
-use Rattle.hyper_rows.specs.Rows.{Rows, InOrder, cells_of, counts_of}
-use Rattle.hyper_rows.proofs.CellLaws.{sorted_rows, same_place}
-use Rattle.hyper_rows.proofs.CountLaws.{places_total, gathered-rising, total-built, gathered, get-built, built-append}
+use Rattle.std.specs.FinMap.{get, empty}
+use Rattle.hyper_rows.proofs.CellLaws.{same_place}
+use Rattle.hyper_rows.proofs.CountLaws.{total-built, gathered, get-built, built-append}
 use Rattle.hyper_rows.proofs.CountLaws.{same_counts}
-
--- rows in order stand for what their cells build
-pub counts_of-built : (rows : Rows) → InOrder rows → counts_of rows ≡ built (cells_of rows)
-unfolding counts_of
-counts_of-built rows h = same_counts _ _ (λ q. get-from_entries places_total (cells_of rows) q ∙
-    sym (get-built (cells_of rows) q ∙ gathered-rising q (cells_of rows) (sorted_rows rows h.numbers h.columns)))
 
 pub entries_total : (cells : List Cell) → count_sum (map entry_of cells) ≡ cell_total cells
 entries_total [] = refl

@@ -1,16 +1,9 @@
 pub mod CountLaws
-pub mod MergeLaws
-pub mod RowLaws
 pub mod CellLaws
 pub mod SortedListLaws
 pub mod BuildLaws
 pub mod PlaceOrderLaws
-pub mod RowEndLaws
 pub mod SearchLaws
 pub mod SkipLaws
 pub mod BuiltOfLaws
-pub mod RunCellLaws
-pub mod RunSkipLaws
-pub mod RowHeadLaws
-pub mod PartLaws
-pub mod InPlaceLaws
+pub mod ShardLaws

@@ -7,7 +7,7 @@ use Rattle.std.specs.FinMap.{find, get, get-from_entries, from_entries, entries,
 use Rattle.std.specs.FinMap.{from_sorted, get-from_sorted, entries-from_sorted}
 use Rattle.std.specs.Cmp.{eq_by_cmp_equiv}
 use Rattle.std.proofs.lemmas.Option.{none-some}
-use Rattle.hyper_rows.specs.Counts.{Place, place_cmp, Counts, plus, ewise_add, built, total, count_sum}
+use Rattle.hyper_rows.specs.Counts.{Place, place_cmp, Counts, plus, ewise_add, built}
 use Rattle.hyper_rows.proofs.CountLaws.{places_total, same_counts, get-ewise_add, get-built, gathered, gathered-rising}
 use Rattle.hyper_rows.proofs.CountLaws.{tied}
 
@@ -18,10 +18,6 @@ entries-in_order es h =
     ap entries (same_counts (from_entries es) (from_sorted es)
     (λ q. get-from_entries places_total es q ∙ sym (get-from_sorted place_cmp es q h))) ∙
     entries-from_sorted place_cmp es h
-
-pub total-in_order : (es : List (Place × ℕ)) → T (is_sorted place_cmp es) → total (from_entries es) ≡ count_sum es
-unfolding total
-total-in_order es h = ap count_sum (entries-in_order es h)
 
 pub len-in_order : (es : List (Place × ℕ)) → T (is_sorted place_cmp es) →
     len (from_entries {R = place_cmp} es) ≡ length es

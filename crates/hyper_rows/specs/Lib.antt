@@ -1,9 +1,5 @@
 pub mod Counts
-pub mod Merged
-pub mod Rows
-pub mod Heads
 pub mod Places
 pub mod Cells
 pub mod Search
 pub mod Parts
-pub mod InPlace

@@ -1,5 +1,5 @@
 -- Lists of cells, and the order of their places.
-use Rattle.std.specs.Prelude.{◌≡◌, ℕ, false, T, List, [], ◌∷◌}
+use Rattle.std.specs.Prelude.{◌≡◌, ℕ, T, List, [], ◌∷◌}
 use Rattle.std.specs.List.{AllByRecursion}
 use Rattle.std.specs.Ordering.{is_lt}
 use Rattle.hyper_rows.specs.Counts.{Place, place_cmp}
@@ -20,8 +20,3 @@ Precede xs ys = AllPlaces (λ p. AllPlaces (Less p) ys) xs
 abbrev pub IsFirst : Place → List (Place × ℕ) → Type 0
 IsFirst p [] = ⊥
 IsFirst p (e ∷ es) = p ≡ e.0
-
--- a list that isn't empty begins at this place or behind it
-abbrev pub BeginsFrom : Place → List (Place × ℕ) → Type 0
-BeginsFrom p [] = Unit {0}
-BeginsFrom p (e ∷ es) = is_lt (place_cmp e.0 p) ≡ false

@@ -1,19 +1,9 @@
-//! Runs of compressed nonempty rows, by which `hyper_matrix` holds its cells: a run made of a list of cells, the sum of
-//! two runs, and searches in one.
+//! What the crates of matrices share: definitions of counts, of lists of cells and of their places with their laws, a
+//! bisection, and the shard of a row.
 #![tactic(auto)]
 
-mod add_in_place;
-mod build;
-mod head;
-mod merge;
 mod part;
-mod rows;
-mod run_cells;
 mod search;
 
-pub use build::rows_of_sorted;
-pub use head::{Head, check_end};
 pub use part::shard_of;
-pub use rows::{Rows, push_heads, row_room};
-pub use run_cells::RunCells;
-pub use search::{RowSum, cell_at, first_from, is_before, partition_point, row_end, row_sum};
+pub use search::{RowSum, is_before, partition_point};

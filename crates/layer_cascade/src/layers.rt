@@ -161,7 +161,7 @@ impl Layers {
     /// cells together; more are counted by one list of their cells and a walk through each of the others. Where there are
     /// more than 32, all are added up, or all but a large first one: one that has a third of what the others have, or more,
     /// where all have more than 2,048 entries. A list takes 24 bytes for each of its cells, at most 2^21, and at most as
-    /// much again while it is sorted. In sums blocks that meet no other are shared. The layers above that one aren't read.
+    /// much again while it is sorted. The layers above that one aren't read.
     ///
     /// No filter for look-ups is made here: matrices get theirs by compactions (`begin`).
     ///
@@ -206,9 +206,8 @@ impl Layers {
     /// over. What the layers hold stays, also on an error.
     ///
     /// All matrices of a layer are due where it is about to pass its cut and has at most 131,072 entries. Else in layer 1
-    /// none are as long as there are fewer than 16. Else the last ones are, from the first on of which those behind it
-    /// have more than three times the entries, where all these are no more than 131,072; else two neighbours of like size
-    /// with more than that, however large they are, since nobody waits for their sum; else one that is to have a filter.
+    /// none are as long as there are fewer than 16. Else, where there are 10 or more, the last ones are, from the first on
+    /// that has no more entries than all after it; else one that is to have a filter.
     ///
     /// Each of these layers has its turn, so that none is forgotten; calls with another `from` have turns of their own.
     /// A sum that was begun and isn't made is begun again when its layer's turn comes, since it may have been given up:
@@ -314,8 +313,8 @@ impl Layers {
         Ok(())
     }
 
-    /// The sum of all layers, as a matrix of its own that shares blocks with them. Takes the time and memory of adding
-    /// the layers up, from the first to the last.
+    /// The sum of all layers, as a matrix of its own. Takes the time and memory of adding the layers up, from the first
+    /// to the last.
     ///
     /// # Errors
     ///

@@ -1,7 +1,7 @@
 //! The layers of one moment, for a reader who takes its time.
 //!
 //! Layers are never changed in place, so a view is a list of pointers to them: what is added later leaves it as it is,
-//! and costs no more for its sake than that a layer or a block that the view shares is copied before it is added to.
+//! and costs no more for its sake than that a layer that the view shares is copied before it is added to.
 ghost use Rattle.std.specs.Prelude.{◌≡◌, IfOk, OnOk};
 ghost use Rattle.hyper_matrix.specs.Counts.{ewise_add};
 ghost use Rattle.hyper_matrix.specs.Matrix.{matrix};

@@ -16,7 +16,7 @@ use Rattle.hyper_rows.proofs.SortedListLaws.{same_tie}
 use Rattle.hyper_rows.specs.Cells.{entry_of, built_of}
 use Rattle.hyper_rows.specs.Counts.{built}
 use Rattle.cells.specs.declared.cell.Cell.{Cell}
-use Rattle.std.specs.FinMap.{get-entries}
+use Rattle.std.specs.FinMap.{get-entries, get-empty, find}
 use Rattle.std.specs.Prelude.{map}
 use Rattle.hyper_matrix.specs.Matrix.{Matrix, matrix}
 use Rattle.layer_compaction.specs.Shared.{content, values, all_counts, HaveDims}
@@ -76,6 +76,12 @@ count_new-le m (e ∷ es) = step (is_some (get m e.0)) (count_new-le m es)
 -- a sum has no more entries than both together
 pub len-ewise_add-le : (a b : Counts) → len (ewise_add a b) ≤ len a + len b
 len-ewise_add-le a b = omega (arith, len-ewise_add a b, count_new-le a (entries b), len-entries b)
+
+-- a map without entries is the empty one
+pub no_entries : (m : Counts) → len m ≡ 0 → m ≡ empty
+no_entries m none = same_counts m empty (λ q. get-entries m q
+    ∙ ap (find place_cmp q) (drop_all 0 (entries m) (omega (arith, none, len-entries m)))
+    ∙ sym (get-empty place_cmp q))
 
 -- no more are new than there are
 pub new_below : (m b : Counts) → count_new m (entries b) ≤ len b

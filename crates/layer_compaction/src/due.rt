@@ -13,9 +13,10 @@ ghost use Rattle.layer_compaction.specs.Runs.{CountsPlaces};
 ghost use Rattle.layer_compaction.specs.Due.{numbers_of, AddUp, IsDue, part_from, with_one};
 
 use crate::filters::{filtered_run, first_unfiltered};
-use crate::limits::{GATHERED_RUNS, MAX_TAIL};
-use crate::pairs::{due_pair, due_tail};
-use crate::runs::{added_to_runs, shared_runs, sum_of_runs, with_run_between};
+use crate::limits::{FEWEST_DUE, GATHERED_RUNS};
+use crate::lists::sum_with_runs;
+use crate::pairs::due_tail;
+use crate::runs::{shared_runs, with_run_between};
 use boxcar::slot::{OnceSlot, SlotRule};
 use boxcar::tag::{Names, Tag};
 use filtered_matrix::FilteredMatrix;
@@ -87,16 +88,12 @@ impl Inputs {
         Ok(Inputs { rows, cols, runs })
     }
 
-    // The sum. A pair is merged; more are added up in one list, but for a first one that is the larger part.
+    // The sum.
     fn sum(&self, alloc: Global) -> Result<Hyper, AllocError>
         ensures { IfOk result (λ sum. sum ≡ self.now) }
     {
-        if self.runs.len() <= 2 {
-            let sum = sum_of_runs(&self.runs, alloc, self.rows, self.cols)?;
-            return Ok(sum);
-        }
         let none = Hyper::new(alloc, self.rows, self.cols);
-        let sum = added_to_runs(alloc, none, &self.runs)?;
+        let sum = sum_with_runs(alloc, none, &self.runs)?;
         Ok(sum)
     }
 }
@@ -157,9 +154,8 @@ impl Compaction {
     /// sum in its place, where the layer finds it. Where another compaction of the same place was faster, its sum
     /// stays.
     ///
-    /// Takes the time and memory of the sum, which shares the blocks that meet no other, and 1 to 2 bytes and some
-    /// nanoseconds for each of its entries for the filter. A single run is copied, which shares all its blocks. It
-    /// waits for nobody, and nobody for it.
+    /// Takes the time and memory of the sum, and 1 to 2 bytes and some nanoseconds for each of its entries for the
+    /// filter. A single run is copied, which shares its cells. It waits for nobody, and nobody for it.
     ///
     /// # Errors
     ///
@@ -306,9 +302,8 @@ impl Due {
 }
 
 /// Which runs are to be added up next: the place of the first, and how many. All, where the layer is about to pass its
-/// cut. Else in layer 1 none, where they are fewer than `GATHERED_RUNS`. Else a tail of them (`due_tail`), or two
-/// neighbours of like size that are too large for that: nobody waits for their sum. Where there are none, a single one
-/// that has no filter and is to have one.
+/// cut. Else in layer 1 none, where they are fewer than `GATHERED_RUNS`. Else a tail of them (`due_tail`), from
+/// `FEWEST_DUE` runs on. Where there is none, a single one that has no filter and is to have one.
 pub(crate) fn due_runs(
     runs: &[Arc<FilteredMatrix>],
     is_first: bool,
@@ -324,9 +319,6 @@ pub(crate) fn due_runs(
     }
     if let Some(place) = due_tail(runs) {
         return Some((place, runs.len() - place));
-    }
-    if let Some(place) = due_pair(runs, MAX_TAIL, u64::MAX) {
-        return Some((place, 2));
     }
     let place = first_unfiltered(runs)?;
     Some((place, 1))

@@ -1,10 +1,9 @@
 //! One layer: matrices side by side, which are added up only where it has to be known what they hold together.
 //!
-//! A small matrix that is added at once to a larger one is copied there with every block that it touches, and so is
-//! each one after it. Here it is put beside the others, which costs a pointer for each of them, as long as their
-//! entries together are no more than the cut: those of the sum can't be more. Then all are added up once, or all but a
-//! large first one, unless they are few; and the places are counted: whether the layer keeps them or they go on, their
-//! sum isn't built. What was counted stays known as long as the same runs stand in front.
+//! Where a small matrix is added at once to a larger one, all cells of that are written anew. Here it is put beside the
+//! others, which costs a pointer for each of them, as long as their entries together are no more than the cut: those of
+//! the sum can't be more. Then few cells become one matrix; of more the places are counted, and whether the layer keeps
+//! them or they go on, their sum isn't built. What was counted stays known as long as the same runs stand in front.
 ghost use Rattle.std.specs.Prelude.{◌≡◌, ℕ, ◌+◌, ◌<◌, ◌≤◌, ◌^◌, ◌⊎◌, IfOk, OnOk, IfSome};
 ghost use Rattle.std.specs.Arc.{arc_value};
 ghost use Rattle.std.specs.FinMap.{empty, get, len};
@@ -22,11 +21,9 @@ ghost use Rattle.layer_compaction.specs.Due.{IsDue};
 use crate::due::{Compaction, Due, begun, copied, due_runs};
 use crate::filters::single_run;
 use crate::limits::{MAX_COUNTED, MAX_LISTED, MAX_RUNS};
-use crate::lists::{add_runs, entries_bound, push_cells_of};
+use crate::lists::{add_runs, entries_bound, push_cells_of, sum_with_runs};
 use crate::pairs::{kept_in_front, with_rest_added};
-use crate::runs::{
-    added_to_runs, count_in, entries_in, places_to, push_runs, row_counts_in, run_of, shared_runs,
-};
+use crate::runs::{count_in, entries_in, places_to, push_runs, row_counts_in, run_of, shared_runs};
 use cells::Cell;
 use filtered_matrix::FilteredMatrix;
 use hyper_matrix::Hyper;
@@ -180,8 +177,8 @@ impl Layer {
         self.runs.as_slice()
     }
 
-    /// How many cells all runs have together, up to 2^64 - 1: a place in several of them counts in each. A step for each
-    /// run.
+    /// How many cells all runs have together, up to 2^64 - 1: a place in several of them counts in each. A step for
+    /// each run.
     pub fn listed_cells(&self) -> u64 {
         entries_bound(&self.runs)
     }
@@ -205,18 +202,18 @@ impl Layer {
         add_runs(sources, &self.runs)
     }
 
-    /// The sum of a matrix and all runs. It shares blocks with them.
+    /// The sum of a matrix and all runs, by merges.
     pub fn added(&self, alloc: Global, m: Hyper) -> Result<Hyper, AllocError>
         requires rows { m.rows ≡ self.now.rows }
         requires cols { m.cols ≡ self.now.cols }
         requires fits { total m.counts + total self.now.counts < 2 ^ 64 }
         ensures { IfOk result (λ sum. sum ≡ joined self.now m) }
     {
-        let sum = added_to_runs(alloc, m, &self.runs)?;
+        let sum = sum_with_runs(alloc, m, &self.runs)?;
         Ok(sum)
     }
 
-    /// The sum of all runs, which shares blocks with them.
+    /// The sum of all runs, by merges. That of a single one shares its cells.
     pub fn sum(&self, alloc: Global) -> Result<Hyper, AllocError>
         ensures { IfOk result (λ m. m ≡ self.now) }
     {
@@ -293,14 +290,15 @@ impl Layer {
         }
     }
 
-    // The same layer with the runs added up whose places aren't known, but for a large first one (`kept_in_front`), where
-    // they have few cells: they are listed to be counted, and the layer behind has fewer runs then. Where it has more than
-    // `MAX_RUNS`, all but a large first one are, however long they are.
+    // The same layer with its runs added up, where all together have at most `MAX_LISTED` cells: to list them is to
+    // count them, and the layer behind gets one run. Where they have more, those whose places aren't known are added
+    // up, but for a large first one (`kept_in_front`), if these have few cells. Where there are more than `MAX_RUNS`,
+    // all but a large first one are, however long they are.
     fn settled(self, alloc: Global) -> Result<Layer, AllocError>
         ensures { IfOk result (λ layer. layer ≡ self) }
     {
         let kept = kept_in_front(&self.runs);
-        if self.runs.len() > MAX_RUNS {
+        if self.runs.len() > MAX_RUNS || entries_bound(&self.runs) <= MAX_LISTED {
             let runs = with_rest_added(&self.runs, kept, alloc, self.rows, self.cols)?;
             return Ok(self.with_runs(runs, 0, 0));
         }
@@ -327,9 +325,9 @@ impl Layer {
 
     /// Takes in what is carried to this layer, if both together have at most the cut of entries. That is judged
     /// exactly: by a bound of the entries, and where that is more than the cut, or there are more than `MAX_RUNS` runs,
-    /// by a count of the places, from where the last count ended. Runs that aren't counted are added up first where they
-    /// have at most `MAX_LISTED` cells together, but for a large first one; and where there are more than `MAX_RUNS`, all
-    /// are but for that.
+    /// by a count of the places, from where the last count ended. Where all runs have at most `MAX_LISTED` cells, they
+    /// become one first; else those that aren't counted do, but for a large first one, where they have as few; and
+    /// where there are more than `MAX_RUNS`, all do but for that.
     pub fn taking(&self, alloc: Global, m: Layer, cut: u64) -> Result<Step, AllocError>
         requires rows { m.rows ≡ self.now.rows }
         requires cols { m.cols ≡ self.now.cols }
@@ -348,9 +346,9 @@ impl Layer {
         Ok(Step::Ends(layer))
     }
 
-    // Whether the layer is about to pass its cut, isn't large, and much of it isn't counted: the bound is more than three
-    // quarters of the cut, and the runs that aren't counted have more than an eighth of it. Once all are added up, what
-    // is left to be counted while an addition waits is little.
+    // Whether the layer is about to pass its cut, isn't large, and much of it isn't counted: the bound is more than
+    // three quarters of the cut, and the runs that aren't counted have more than an eighth of it. Once all are added
+    // up, what is left to be counted while an addition waits is little.
     fn is_filling(&self, cut: u64) -> bool {
         self.most <= MAX_COUNTED
             && self.most > cut - cut / 4
@@ -359,11 +357,9 @@ impl Layer {
 
     /// The same layer with a place for the sum of the runs that are due, and their compaction; `is_first` tells whether
     /// it is layer 1, and u64::MAX stands for no cut. All are due where a layer that isn't large is about to pass its
-    /// cut, so that the addition that does has few places to count. Else in layer 1 none are, as long as there are fewer
-    /// than `GATHERED_RUNS`. Else all from the first run on of which those behind it have more than `TAIL_RATIO`
-    /// times the entries together, where these are at most `MAX_TAIL`; or else the first two neighbours with `MAX_TAIL` or
-    /// more of which the earlier one has fewer than `PAIR_RATIO` times as many entries as the later one; or else the first
-    /// run that has no filter and is to have one.
+    /// cut, so that the addition that does has few places to count. Else in layer 1 none are, as long as there are
+    /// fewer than `GATHERED_RUNS`. Else, from `FEWEST_DUE` runs on, all from the first run on that has no more entries
+    /// than all after it; or else the first run that has no filter and is to have one.
     ///
     /// Where runs were begun before and their place is still empty, it is a compaction of the same runs for the same
     /// place: the earlier one may have been given up. None where nothing is due, or where a sum waits to be taken over

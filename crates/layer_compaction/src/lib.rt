@@ -2,8 +2,8 @@
 //!
 //! A matrix that comes to a layer is put beside the others as a run, as a log-structured merge tree does with sorted
 //! runs (O'Neil, Cheng, Gawlick and O'Neil, 1996, "The Log-Structured Merge-Tree"): that takes the time of a pointer.
-//! Runs are compacted, that is added up into one, where there are many of them, where two neighbours are of like size,
-//! or where it has to be known how many places they have together. Each may have a filter of its places beside it.
+//! Runs are compacted, that is added up into one, where there are many of them, where the later ones outgrow an earlier
+//! one, or where it has to be known how many places they have together. Each may have a filter of its places beside it.
 //!
 //! That is done while an addition waits for it, or apart from all additions: `Layer::begun` gives the runs that are due
 //! as a `Compaction`, which whoever has time runs without the lock that the layer is behind, and `Layer::compacted`

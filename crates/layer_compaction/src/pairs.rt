@@ -1,5 +1,4 @@
-//! Some runs of a layer that stand side by side, added up while the others stay as they are: two neighbours, or all from
-//! a place on.
+//! The last runs of a layer, added up while those before them stay as they are.
 //!
 //! Done again and again, it leaves few runs, each larger than the next, in the manner of a binary counter.
 ghost use Rattle.std.specs.Prelude.{◌≡◌, ◌+◌, ◌<◌, ◌≤◌, ◌^◌, length, take, IfOk, IfSome};
@@ -7,53 +6,36 @@ ghost use Rattle.cells.specs.Bounds.{IsDimension};
 ghost use Rattle.hyper_matrix.specs.Counts.{total};
 ghost use Rattle.layer_compaction.specs.Shared.{content, values, all_counts, HaveDims};
 
-use crate::limits::{FEWEST_KEPT, MAX_TAIL, PAIR_RATIO, TAIL_RATIO};
-use crate::lists::entries_bound;
-use crate::runs::{added_to_runs, run_of, shared_runs};
+use crate::limits::{FEWEST_DUE, MAX_LISTED};
+use crate::lists::{entries_bound, sum_with_runs};
+use crate::runs::{run_of, shared_runs};
 use filtered_matrix::FilteredMatrix;
 use hyper_matrix::Hyper;
 use std::alloc::{AllocError, Global};
 use std::sync::Arc;
 
-/// The place of the first run that is to be added up with the next one: it has fewer than `PAIR_RATIO` times as many
-/// entries, and together they have from `fewest` to `most`. Only time rests on which it is.
-pub fn due_pair(runs: &[Arc<FilteredMatrix>], fewest: u64, most: u64) -> Option<usize>
-    ensures { IfSome result (λ place. place + 1 < length runs.now) }
-{
-    for next in 1..runs.len() {
-        let place = next - 1;
-        let (earlier, later) = (
-            runs[place].matrix().entries(),
-            runs[next].matrix().entries(),
-        );
-        let is_alike = earlier < later.saturating_mul(PAIR_RATIO);
-        let both = earlier.saturating_add(later);
-        if is_alike && fewest <= both && both <= most {
-            return Some(place);
-        }
-    }
-    None
-}
-
-/// The place of the first run of which all behind it together have more than `TAIL_RATIO` times the entries, where these
-/// are at most `MAX_TAIL` with it: from there on all are to be added up. Only time rests on which it is.
+/// The place of the first run that has no more entries than all after it together: from there on all are to be added
+/// up. None where there are fewer than `FEWEST_DUE` runs. Only time rests on which it is.
 pub fn due_tail(runs: &[Arc<FilteredMatrix>]) -> Option<usize>
     ensures { IfSome result (λ place. place + 1 < length runs.now) }
 {
+    if runs.len() < FEWEST_DUE {
+        return None;
+    }
     let mut tail = entries_bound(runs);
     for place in 0..runs.len() {
         let entries = runs[place].matrix().entries();
-        let behind = tail.saturating_sub(entries);
-        if place + 1 < runs.len() && entries < behind / TAIL_RATIO && tail <= MAX_TAIL {
+        let after = tail.saturating_sub(entries);
+        if place + 1 < runs.len() && entries <= after {
             return Some(place);
         }
-        tail = behind;
+        tail = after;
     }
     None
 }
 
 /// How many runs in front stay as they are where runs are added up: the first, if it has at least a third of what all
-/// others have together and all have more than `FEWEST_KEPT`, and else none. Only time rests on it.
+/// others have together and all have more than `MAX_LISTED`, and else none. Only time rests on it.
 pub fn kept_in_front(runs: &[Arc<FilteredMatrix>]) -> usize
     ensures { result ≤ length runs.now }
 {
@@ -62,7 +44,7 @@ pub fn kept_in_front(runs: &[Arc<FilteredMatrix>]) -> usize
     };
     let others = entries_bound(rest);
     let entries = first.matrix().entries();
-    if entries < others / 3 || entries.saturating_add(others) <= FEWEST_KEPT {
+    if entries < others / 3 || entries.saturating_add(others) <= MAX_LISTED {
         return 0;
     }
     1
@@ -88,7 +70,7 @@ pub fn with_rest_added(
 {
     let (front, rest) = runs.split_at(kept);
     let none = Hyper::new(alloc, rows, cols);
-    let sum = added_to_runs(alloc, none, rest)?;
+    let sum = sum_with_runs(alloc, none, rest)?;
     let run = run_of(alloc, FilteredMatrix::new(alloc, sum))?;
     let mut after = shared_runs(alloc, front, kept + 1)?;
     after.push(run)?;

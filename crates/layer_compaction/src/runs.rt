@@ -12,8 +12,8 @@ ghost use Rattle.hyper_rows.specs.Counts.{place_cmp};
 ghost use Rattle.layer_compaction.specs.Shared.{content, values, all_counts, HaveDims};
 ghost use Rattle.layer_compaction.specs.Runs.{count_new, CountsPlaces};
 
-use crate::limits::{LONGEST_LIST, MAX_LISTED, WALKED_RATIO};
-use crate::lists::{entries_bound, merged, push_cells_of, sum_by_list};
+use crate::limits::{LONGEST_LIST, WALKED_RATIO};
+use crate::lists::{entries_bound, list_with_runs};
 use crate::lookup::plus;
 use crate::walk::{keep_new, new_beside};
 use cells::Cell;
@@ -70,77 +70,6 @@ pub fn with_run_between(
     all.push(run)?;
     push_runs(&mut all, behind)?;
     Ok(all)
-}
-
-/// The sum of runs: that of the first half and that of the second, added. So a cell is written as often as the runs can
-/// be halved, and not once for each run. More than two runs that are short together are added up by a list of their
-/// cells.
-pub fn sum_of_runs(
-    runs: &[Arc<FilteredMatrix>],
-    alloc: Global,
-    rows: u64,
-    cols: u64,
-) -> Result<Hyper, AllocError>
-    requires rows { IsDimension rows }
-    requires cols { IsDimension cols }
-    requires dims { HaveDims rows cols (values runs.now) }
-    requires fits { total (content (all_counts (values runs.now))) < 2 ^ 64 }
-    ensures { IfOk result (λ m. m ≡ matrix rows cols (content (all_counts (values runs.now)))) }
-{
-    match runs {
-        [] => Ok(Hyper::new(alloc, rows, cols)),
-        [run] => {
-            let only = run.matrix().copy(alloc)?;
-            Ok(only)
-        }
-        // A list of so few cells is sorted in a few passes. Two runs are merged in less time.
-        _ if runs.len() > 2 && entries_bound(runs) <= MAX_LISTED => {
-            let none = Hyper::new(alloc, rows, cols);
-            let listed = sum_by_list(alloc, none, runs)?;
-            Ok(listed)
-        }
-        _ => {
-            let (left, right) = runs.split_at(runs.len() / 2);
-            let sum = sum_of_runs(left, alloc, rows, cols)?;
-            let rest = sum_of_runs(right, alloc, rows, cols)?;
-            let whole = sum.into_sum(alloc, rest)?;
-            Ok(whole)
-        }
-    }
-}
-
-/// The sum of a matrix and runs. Where the first run is the larger part, and they aren't few cells, all others are added
-/// up with the matrix, and the sum to that run, whose blocks it shares but for those that it touches. Else one list of
-/// cells is merged.
-pub fn added_to_runs(
-    alloc: Global,
-    m: Hyper,
-    runs: &[Arc<FilteredMatrix>],
-) -> Result<Hyper, AllocError>
-    requires dims { HaveDims m.rows m.cols (values runs.now) }
-    requires fits { total m.counts + total (content (all_counts (values runs.now))) < 2 ^ 64 }
-    ensures { IfOk result (λ s. s ≡ record m { counts = ewise_add m.counts (content (all_counts (values runs.now))) }) }
-{
-    let Some((first, rest)) = runs.split_first() else {
-        return Ok(m);
-    };
-    let front = first.matrix();
-    let behind = entries_bound(rest);
-    let all = m
-        .entries()
-        .saturating_add(front.entries().saturating_add(behind));
-    // Many are merged in one list. Where the first run has more than those behind it, and isn't short, the sum may share
-    // its blocks.
-    let is_short = runs.len() > 2 && all <= MAX_LISTED;
-    if is_short || all <= LONGEST_LIST && front.entries() <= behind {
-        let merged = sum_by_list(alloc, m, runs)?;
-        return Ok(merged);
-    }
-    let (rows, cols) = m.dims();
-    let others = sum_of_runs(rest, alloc, rows, cols)?;
-    let others = m.into_sum(alloc, others)?;
-    let sum = others.ewise_add(alloc, front)?;
-    Ok(sum)
 }
 
 /// The count at a place of the runs' sum, or None where no run has an entry.
@@ -248,9 +177,7 @@ fn new_together(
     ensures { IfOk result (λ new. new
         ≡ count_new (content (all_counts (values before.now))) (entries (content (all_counts (values rest.now))))) }
 {
-    let mut cells = Vec::new(alloc);
-    push_cells_of(&mut cells, rest)?;
-    let cells = merged(alloc, cells)?;
+    let cells = list_with_runs(alloc, &[], rest)?;
     let new = new_in_list(before, cells);
     Ok(new)
 }
@@ -303,8 +230,8 @@ fn places_by_list(
 /// together.
 ///
 /// Where none is counted, the first takes no time. A single one between is counted as `new_by_walks` does it, and so is
-/// each of several that have more than `LONGEST_LIST` cells. Else these are counted together, which takes a list of their
-/// cells, 24 bytes for each and half as much again while it is sorted, and a walk through each run before.
+/// each of several that have more than `LONGEST_LIST` cells. Else these are counted together, which takes a list of
+/// their cells, 24 bytes for each and as much again while they are merged, and a walk through each run before.
 pub fn places_to(
     alloc: Global,
     runs: &[Arc<FilteredMatrix>],

@@ -22,7 +22,7 @@ const VERSION: u32 = 3;
 
 /// Reads the batches of blocks, one block after another. Contracts see the setup of the log.
 ///
-/// It keeps 64 KiB in which bytes wait, and one run of at most 4,096 cells.
+/// It keeps 64 KiB in which bytes wait.
 #[derive(Drop)]
 pub struct BlockReader {
     head: Head,

@@ -1,2 +1,3 @@
 pub mod Names
 pub mod Memory
+pub mod System

@@ -1,20 +1,18 @@
 //! A real file as that of a log.
-ghost use Rattle.std.specs.Prelude.{◌≡◌, ◌+◌, ◌<◌, ◌^◌, [], ⊤, true, false};
+ghost use Rattle.std.specs.Prelude.{◌≡◌, ◌+◌, ◌<◌, ◌^◌, ⊤, true, false};
 
 use crate::news::{FileCall, LogNews};
 use crate::place::Place;
+use crate::system_file::SystemFile;
 use byte_io::DeviceFault;
 use log_disk::LogDisk;
-use std::fs::File;
 use std::io::{self, ErrorKind};
-use std::os::fd::AsRawFd;
-use std::os::unix::fs::FileExt;
 use std::sync::Arc;
 
-/// A file of the system. It doesn't tell what it holds.
+/// A file of the system as that of a log. It tells what it holds where the system's file does.
 #[derive(Drop)]
-pub struct FileDisk {
-    file: File,
+pub struct FileDisk<F> {
+    file: F,
     // It has so many bytes at least.
     length: u64,
     // Whether it may have got longer or shorter since it was last synced.
@@ -27,41 +25,13 @@ pub struct FileDisk {
     news: Option<Arc<LogNews>>,
 }
 
-/// Reads into the whole of `buf`, 00 behind the end of the file.
-fn read_padded(file: &File, at: u64, buf: &mut [u8]) -> io::Result<()> {
-    buf.fill(0);
-    match file.read_exact_at(buf, at) {
-        Err(error) if error.kind() == ErrorKind::UnexpectedEof => Ok(()),
-        answer => answer,
-    }
-}
-
-/// What Linux's lseek counts an offset from: the end of the file.
-const SEEK_END: i32 = 2;
-
-/// How many bytes a file has. Each read and write of it names its offset, so its position serves nobody else.
-fn length_of(file: &File) -> io::Result<u64> {
-    match u64::try_from(libc::lseek(file.as_raw_fd(), 0, SEEK_END)) {
-        Ok(length) => Ok(length),
-        Err(_) => Err(io::Error::from_raw_os_error(os::errno())),
-    }
-}
-
-/// Cuts a file to a length, if it is longer.
-fn cut_longer(file: &File, len: u64) -> io::Result<()> {
-    if file.metadata()?.len() <= len {
-        return Ok(());
-    }
-    file.set_len(len)
-}
-
-impl FileDisk {
+impl<F: SystemFile> FileDisk<F> {
     /// The file that was opened to read and to write, has so many bytes at least, and is to stay under this path. No call
     /// of it has failed.
     ///
     /// Its first sync brings its length too to where it outlasts a loss of power, since nobody knows what an earlier
     /// life left.
-    pub(crate) fn new(file: File, length: u64, place: Option<Place>) -> FileDisk
+    pub(crate) fn new(file: F, length: u64, place: Option<Place>) -> FileDisk<F>
         ensures sound { result.in_doubt ≡ false }
         ensures failures { result.failures ≡ 0 }
     {
@@ -77,30 +47,17 @@ impl FileDisk {
     }
 
     /// The same, which notes there why a call failed, if anywhere.
-    pub fn telling(self, news: Option<Arc<LogNews>>) -> FileDisk
+    pub fn telling(self, news: Option<Arc<LogNews>>) -> FileDisk<F>
         ensures sound { result.in_doubt ≡ self.in_doubt }
         ensures failures { result.failures ≡ self.failures }
     {
         FileDisk { news, ..self }
     }
 
-    /// Writes all of the bytes, in as many calls as the system takes.
-    fn put(&mut self, at: u64, bytes: &[u8]) -> io::Result<()>
-        ensures sound { self.new.in_doubt ≡ self.old.in_doubt }
-        ensures failures { self.new.failures ≡ self.old.failures }
-    {
-        let end = at.saturating_add(bytes.len() as u64);
-        if self.length < end {
-            self.is_resized = true;
-        }
-        self.file.write_all_at(bytes, at)?;
-        self.length = self.length.max(end);
-        Ok(())
-    }
-
     /// Whether the file is still the log's: under its path, and as long as it was made. It asks for no time of the file:
     /// whoever does has the next write note a finer one, which then costs a third of a put.
     fn look(&mut self) -> io::Result<()>
+        ensures file { self.new.file ≡ self.old.file }
         ensures sound { self.new.in_doubt ≡ self.old.in_doubt }
         ensures failures { self.new.failures ≡ self.old.failures }
     {
@@ -109,7 +66,7 @@ impl FileDisk {
                 return Err(io::Error::from(ErrorKind::NotFound));
             }
         }
-        if length_of(&self.file)? < self.length {
+        if self.file.byte_length()? < self.length {
             return Err(io::Error::from(ErrorKind::UnexpectedEof));
         }
         Ok(())
@@ -155,20 +112,20 @@ impl FileDisk {
     }
 }
 
-impl LogDisk for FileDisk {
-    ghost telling = { ⊥ };
+impl<F: SystemFile> LogDisk for FileDisk<F> {
+    ghost telling = { F.telling };
 
-    ghost tells = { λ s. ⊥ };
+    ghost tells = { λ s. F.tells s.file };
 
-    ghost written = { λ s. [] };
+    ghost written = { λ s. F.written s.file };
 
-    ghost may_leave = { λ s left. ⊥ };
+    ghost may_leave = { λ s left. F.may_leave s.file left };
 
-    ghost is_fresh = { λ s i. ⊥ };
+    ghost is_fresh = { λ s i. F.is_fresh s.file i };
 
-    ghost moment = { λ s. 0 };
+    ghost moment = { λ s. F.moment s.file };
 
-    ghost left_since = { λ s t left. ⊥ };
+    ghost left_since = { λ s t left. F.left_since s.file t left };
 
     ghost failure_count = { λ s. s.failures };
 
@@ -176,21 +133,24 @@ impl LogDisk for FileDisk {
 
     ghost lost_name = { ⊤ };
 
-    ghost counts_now = { λ file t left later may. may };
+    ghost counts_now = { λ disk t left later may. F.counts_now disk.file t left later may };
 
-    ghost only_now = { λ file left since. since };
+    ghost only_now = { λ disk left since. F.only_now disk.file left since };
 
     fn read_at(&mut self, at: u64, buf: &mut [u8]) -> Result<(), DeviceFault> {
-        match read_padded(&self.file, at, buf) {
+        match self.file.read_padded(at, buf) {
             Ok(()) => Ok(()),
             Err(error) => Err(self.fail(FileCall::Read, &error)),
         }
     }
 
     fn write_at(&mut self, at: u64, bytes: &[u8]) -> Result<(), DeviceFault> {
-        match self.put(at, bytes) {
+        let end = at.saturating_add(bytes.len() as u64);
+        self.is_resized = self.is_resized || self.length < end;
+        match self.file.write_whole(at, bytes) {
             Ok(()) => {
-                self.note_end(at.saturating_add(bytes.len() as u64));
+                self.length = self.length.max(end);
+                self.note_end(end);
                 Ok(())
             }
             Err(error) => Err(self.fail_in_doubt(FileCall::Write, &error)),
@@ -198,8 +158,13 @@ impl LogDisk for FileDisk {
     }
 
     fn fill(&mut self, at: u64, zeros: &[u8]) -> Result<(), DeviceFault> {
-        match self.put(at, zeros) {
-            Ok(()) => Ok(()),
+        let end = at.saturating_add(zeros.len() as u64);
+        self.is_resized = self.is_resized || self.length < end;
+        match self.file.write_whole(at, zeros) {
+            Ok(()) => {
+                self.length = self.length.max(end);
+                Ok(())
+            }
             Err(error) => Err(self.fail(FileCall::MakeRoom, &error)),
         }
     }
@@ -207,21 +172,16 @@ impl LogDisk for FileDisk {
     fn cut(&mut self, len: u64) -> Result<(), DeviceFault> {
         self.is_resized = true;
         self.length = self.length.min(len);
-        match cut_longer(&self.file, len) {
+        match self.file.cut_to(len) {
             Ok(()) => Ok(()),
             Err(error) => Err(self.fail_in_doubt(FileCall::Cut, &error)),
         }
     }
 
-    /// Syncs the bytes, and the length where it may have changed. Then it looks after the file: whoever moves, removes,
-    /// replaces or cuts the log of a server takes away what would be told as durable.
+    /// Syncs the bytes and the length, and all else where the length may have changed. Then it looks after the file:
+    /// whoever moves, removes, replaces or cuts the log of a server takes away what would be told as durable.
     fn sync(&mut self) -> Result<(), DeviceFault> {
-        let synced = if self.is_resized {
-            self.file.sync_all()
-        } else {
-            self.file.sync_data()
-        };
-        if let Err(error) = synced {
+        if let Err(error) = self.file.sync_now(self.is_resized) {
             return Err(self.fail_in_doubt(FileCall::Sync, &error));
         }
         self.is_resized = false;

@@ -14,6 +14,7 @@ mod naming;
 mod news;
 mod place;
 mod real;
+mod system_file;
 
 pub use calls::{FoundFile, LogFolder, NumberedFile};
 pub use fault::{FolderFault, RotateFault};
@@ -22,3 +23,4 @@ pub use memory::MemoryLogFolder;
 pub use naming::{begin_named, give_name, make_with_head};
 pub use news::{FailedCall, FileCall, LogNews, StartedLog};
 pub use real::{FileLogFolder, Refusal};
+pub use system_file::SystemFile;

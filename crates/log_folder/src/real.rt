@@ -1,5 +1,7 @@
 //! The real folder of a log.
-ghost use Rattle.std.specs.Prelude.{◌≡◌, ◌+◌, ◌<◌, ◌^◌, None, ⊤, IfOk, IfSome, false};
+ghost use Rattle.std.specs.Prelude.{◌≡◌, ◌+◌, ◌<◌, ◌^◌, None, IfOk, IfSome, OnOk, is_some, string_bytes, false};
+ghost use Rattle.log_folder.specs.System.{CallOf, HasSyncedNames};
+ghost use Rattle.snap_file.specs.System.{make};
 
 use crate::calls::{FoundFile, LogFolder, NumberedFile};
 use crate::fault::FolderFault;
@@ -7,7 +9,7 @@ use crate::file_disk::FileDisk;
 use crate::news::{FileCall, LogNews};
 use crate::place::Place;
 use byte_io::DeviceFault;
-use snap_file::{UNFINISHED, access_under, clear, folder_of, make_file};
+use snap_file::{FileSystem, RealFiles, UNFINISHED, folder_of};
 use sparse_log::bytes_to_read;
 use std::alloc::Global;
 use std::fs::{self, File, OpenFile, OpenOptions, TryLockError};
@@ -33,8 +35,10 @@ pub enum Refusal {
 /// Two that write to the log of one path write over each other: whoever may meet another takes the path's lock first,
 /// by `snap_file::lock`. A file that is found or made is locked too, as long as it is open: it may have several names.
 #[derive(Drop)]
-pub struct FileLogFolder<'a, R: Files<File = File>> {
+pub struct FileLogFolder<'a, R: Files<File = File>, S: FileSystem<File = File, Folder = File>> {
+    // Files are looked at and opened by the one, and made, named and synced by the other.
     rt: &'a R,
+    system: S,
     alloc: Global,
     path: &'a str,
     // The path with `UNFINISHED` behind it.
@@ -54,8 +58,8 @@ pub struct FileLogFolder<'a, R: Files<File = File>> {
 }
 
 /// Opens a folder, so that it can be synced.
-fn open_folder<R: Files<File = File>>(rt: &R, path: &str) -> Result<File, FolderFault> {
-    match fs::open(rt, folder_of(path)) {
+fn open_folder<S: FileSystem>(system: &mut S, path: &str) -> Result<S::Folder, FolderFault> {
+    match system.open_folder(folder_of(path)) {
         Ok(folder) => Ok(folder),
         Err(_) => Err(FolderFault::OpenFailed),
     }
@@ -101,7 +105,7 @@ fn open_log<R: Files<File = File>>(
     alloc: Global,
     path: &str,
     folder: &File,
-) -> io::Result<Option<(FileDisk, u64)>>
+) -> io::Result<Option<(FileDisk<File>, u64)>>
     ensures { IfOk result (λ found. IfSome found (λ f. (f.0.in_doubt ≡ false) × (f.0.failures ≡ 0))) }
 {
     match fs::metadata(rt, path) {
@@ -118,19 +122,17 @@ fn open_log<R: Files<File = File>>(
 }
 
 /// Makes the new file of the log under a path, and takes its lock before it has that name.
-fn make_beside<R: Files<File = File>>(
-    rt: &R,
+fn make_beside<S: FileSystem<File = File>>(
+    system: &mut S,
     alloc: Global,
     path: &str,
     name: &str,
     folder: &File,
-) -> io::Result<FileDisk>
-    ensures { IfOk result (λ disk. (disk.in_doubt ≡ false) × (disk.failures ≡ 0)) }
+) -> io::Result<FileDisk<File>>
+    ensures sound { IfOk result (λ disk. (disk.in_doubt ≡ false) × (disk.failures ≡ 0)) }
+    ensures made { OnOk result (S.did system.old (make name.now) system.new) }
 {
-    let Ok(access) = access_under(rt, path) else {
-        return Err(io::Error::from(ErrorKind::Other));
-    };
-    let file = make_file(rt, name, access)?;
+    let file = system.make(path, name)?;
     if is_locked(&file) {
         return Err(io::Error::from(ErrorKind::WouldBlock));
     }
@@ -143,7 +145,7 @@ fn again(news: Option<&Arc<LogNews>>) -> Option<Arc<LogNews>> {
     Arc::try_clone(news?).ok()
 }
 
-impl<'a, R: Files<File = File>> FileLogFolder<'a, R> {
+impl<'a, R: Files<File = File>> FileLogFolder<'a, R, RealFiles<'a, R>> {
     /// The folder of the log under `path`, and that of the snapshot beside which it stands.
     ///
     /// # Errors
@@ -154,19 +156,21 @@ impl<'a, R: Files<File = File>> FileLogFolder<'a, R> {
         alloc: Global,
         path: &'a str,
         snapshot: Option<&str>,
-    ) -> Result<FileLogFolder<'a, R>, FolderFault>
+    ) -> Result<FileLogFolder<'a, R, RealFiles<'a, R>>, FolderFault>
         ensures { IfOk result (λ folder. folder.failures ≡ 0) }
     {
         let Ok(new_name) = format!(in alloc; "{path}{UNFINISHED}") else {
             return Err(FolderFault::Memory);
         };
-        let folder = open_folder(rt, path)?;
+        let mut system = RealFiles::new(rt);
+        let folder = open_folder(&mut system, path)?;
         let snapshot_folder = match snapshot {
-            Some(beside) => Some(open_folder(rt, beside)?),
+            Some(beside) => Some(open_folder(&mut system, beside)?),
             None => None,
         };
         Ok(FileLogFolder {
             rt,
+            system,
             alloc,
             path,
             new_name,
@@ -179,9 +183,11 @@ impl<'a, R: Files<File = File>> FileLogFolder<'a, R> {
             news: None,
         })
     }
+}
 
+impl<'a, R: Files<File = File>, S: FileSystem<File = File, Folder = File>> FileLogFolder<'a, R, S> {
     /// The same, which notes there why a call of its own or of its files failed, if anywhere.
-    pub fn telling(self, news: Option<&Arc<LogNews>>) -> FileLogFolder<'a, R>
+    pub fn telling(self, news: Option<&Arc<LogNews>>) -> FileLogFolder<'a, R, S>
         ensures { result.failures ≡ self.entry.failures }
     {
         FileLogFolder {
@@ -226,7 +232,8 @@ impl<'a, R: Files<File = File>> FileLogFolder<'a, R> {
     }
 
     /// Gives a file its number.
-    fn number(&mut self, disk: FileDisk) -> NumberedFile<FileDisk>
+    fn number(&mut self, disk: FileDisk<File>) -> NumberedFile<FileDisk<File>>
+        ensures system { self.new.system ≡ self.old.system }
         ensures sound { result.disk.in_doubt ≡ disk.in_doubt }
         ensures none_failed { result.disk.failures ≡ disk.failures }
         ensures failures { self.new.failures ≡ self.old.failures }
@@ -238,11 +245,15 @@ impl<'a, R: Files<File = File>> FileLogFolder<'a, R> {
     }
 
     /// Syncs the snapshot's folder and the log's.
-    fn sync_folders(&self) -> io::Result<()> {
+    fn sync_folders(&mut self) -> io::Result<()>
+        ensures synced { OnOk result (HasSyncedNames S.did self.old.system (is_some self.old.snapshot_folder)
+            self.new.system) }
+        ensures failures { self.new.failures ≡ self.old.failures }
+    {
         if let Some(folder) = &self.snapshot_folder {
-            folder.sync_all()?;
+            self.system.sync_folder(folder)?;
         }
-        self.folder.sync_all()
+        self.system.sync_folder(&self.folder)
     }
 
     /// Counts a call that fails so.
@@ -270,8 +281,9 @@ impl<'a, R: Files<File = File>> FileLogFolder<'a, R> {
     }
 }
 
-impl<'a, R: Files<File = File>> LogFolder for FileLogFolder<'a, R> {
-    type Disk = FileDisk;
+impl<'a, R: Files<File = File>, S: FileSystem<File = File, Folder = File>> LogFolder
+    for FileLogFolder<'a, R, S> {
+    type Disk = FileDisk<File>;
 
     ghost tells = { λ s. ⊥ };
 
@@ -283,13 +295,14 @@ impl<'a, R: Files<File = File>> LogFolder for FileLogFolder<'a, R> {
 
     ghost may_name = { λ s x. ⊥ };
 
-    ghost call_gives = { λ s call answer t. ⊤ };
+    ghost call_gives = { λ s call answer t. CallOf S.did s.system s.path.now (string_bytes s.new_name)
+        (is_some s.snapshot_folder) call answer t.system };
 
     ghost failure_count = { λ s. s.failures };
 
     ghost files_tell = { λ folder. (λ told. told, λ told. told) };
 
-    fn find(&mut self) -> Result<Option<FoundFile<FileDisk>>, DeviceFault> {
+    fn find(&mut self) -> Result<Option<FoundFile<FileDisk<File>>>, DeviceFault> {
         match open_log(self.rt, self.alloc, self.path, &self.folder) {
             Ok(Some((disk, length))) => {
                 let file = self.number(disk);
@@ -302,9 +315,9 @@ impl<'a, R: Files<File = File>> LogFolder for FileLogFolder<'a, R> {
 
     /// Removes what stands under the new file's name, a folder excepted, and makes the file anew. What is neither a
     /// file nor a folder under the log's name isn't replaced.
-    fn make_new(&mut self) -> Result<NumberedFile<FileDisk>, DeviceFault> {
+    fn make_new(&mut self) -> Result<NumberedFile<FileDisk<File>>, DeviceFault> {
         match make_beside(
-            self.rt,
+            &mut self.system,
             self.alloc,
             self.path,
             self.new_name.as_str(),
@@ -318,8 +331,8 @@ impl<'a, R: Files<File = File>> LogFolder for FileLogFolder<'a, R> {
         }
     }
 
-    fn take_name(&mut self, _file: &NumberedFile<FileDisk>) -> Result<(), DeviceFault> {
-        match fs::rename(self.rt, self.new_name.as_str(), self.path) {
+    fn take_name(&mut self, _file: &NumberedFile<FileDisk<File>>) -> Result<(), DeviceFault> {
+        match self.system.rename(self.new_name.as_str(), self.path) {
             Ok(()) => Ok(()),
             Err(error) => Err(self.fail_to_name(FileCall::Rename, &error)),
         }
@@ -333,7 +346,7 @@ impl<'a, R: Files<File = File>> LogFolder for FileLogFolder<'a, R> {
     }
 
     fn remove_new(&mut self) {
-        let _ = clear(self.rt, self.new_name.as_str());
+        let _ = self.system.remove(self.new_name.as_str());
     }
 
     fn failures(&self) -> u64 {

@@ -120,7 +120,7 @@ fn keep(
 
 impl LogScan {
     /// A scan that has taken nothing, of a log of this setup whose first batch has this place. It keeps 64 KiB in which
-    /// bytes wait, and one run of at most 4,096 cells.
+    /// bytes wait.
     ///
     /// # Errors
     ///

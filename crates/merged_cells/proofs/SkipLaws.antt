@@ -18,7 +18,7 @@ use Rattle.hyper_rows.proofs.CountLaws.{exact_places, same_counts, get-ewise_add
 use Rattle.hyper_rows.proofs.CountLaws.{T_second}
 use Rattle.hyper_rows.proofs.PlaceOrderLaws.{all_map, to_all}
 use Rattle.hyper_rows.proofs.SkipLaws.{AllFrom, all_from, still_behind, sorted_from, fewer_from}
-use Rattle.hyper_matrix.proofs.BlockSearchLaws.{before_until, before_other}
+use Rattle.hyper_matrix.proofs.SearchLaws.{before_until, before_other}
 use Rattle.merged_cells.specs.declared.front.Front.{Front}
 use Rattle.merged_cells.specs.Fronts.{front_cmp, left_of, fronts_of, fronts_sum, cells_left, AreRising, NoneBefore}
 use Rattle.merged_cells.specs.Fronts.{AreFronts}

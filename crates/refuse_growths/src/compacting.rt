@@ -2,16 +2,15 @@
 ghost use Rattle.std.specs.Prelude.{◌≡◌, IfOk};
 ghost use Rattle.std.specs.Arc.{arc_value};
 
-use crate::examples::small_setup;
 use crate::show::{say, show_shard, tell};
 use crate::stop::Stop;
-use batch_store::{Batch, CellsFault, Compaction, Setup, Shard, ShardFault};
+use batch_store::{Batch, CellsFault, Compaction, Setup, SetupFault, Shard, ShardFault};
 use cells::Cell;
 use std::alloc::{AllocError, Global};
 use std::random::RandomSource;
 use std::sync::Arc;
 
-/// Three cells of row 0: more than the first cut of the small setup, and fewer than the second.
+/// Three cells of row 0: more than the first cut. Ten such lists are fewer than the second one.
 static ROW: [Cell; 3] = [
     Cell {
         row: 0,
@@ -30,9 +29,14 @@ static ROW: [Cell; 3] = [
     },
 ];
 
-/// Has a shard take five batches in, whose parts stand side by side in layer 2 then, and adds these up.
+// The small setup with a second cut of 64.
+fn wide_setup() -> Result<Setup, SetupFault> {
+    Setup::new(3, 3, &[2, 64], 2, 100, 10)
+}
+
+/// Has a shard take ten batches in, whose parts are side by side in layer 2 then, and adds these up.
 pub fn run(rt: &(impl RandomSource + Print), alloc: Global) -> Result<(), Stop> {
-    let setup = small_setup()?;
+    let setup = wide_setup()?;
     let mut shard = Shard::new(rt, alloc, &setup, 0)?;
     let told = run_example(rt, alloc, &setup, &mut shard);
     drop(shard);
@@ -42,12 +46,22 @@ pub fn run(rt: &(impl RandomSource + Print), alloc: Global) -> Result<(), Stop> 
 fn run_example(rt: &impl Print, alloc: Global, setup: &Setup, shard: &mut Shard) -> Result<(), Stop>
     requires { shard.old.setup ≡ setup.now }
 {
-    take_in(alloc, setup, shard, 1)?;
-    take_in(alloc, setup, shard, 2)?;
-    take_in(alloc, setup, shard, 3)?;
-    take_in(alloc, setup, shard, 4)?;
-    take_in(alloc, setup, shard, 5)?;
+    take_five(alloc, setup, shard, 1)?;
+    take_five(alloc, setup, shard, 6)?;
     compact(rt, alloc, shard)
+}
+
+// Has a shard take in the batches of five numbers.
+fn take_five(alloc: Global, setup: &Setup, shard: &mut Shard, first: u32) -> Result<(), Stop>
+    requires { shard.old.setup ≡ setup.now }
+    ensures { shard.new.setup ≡ shard.old.setup }
+{
+    let first = u64::from(first);
+    take_in(alloc, setup, shard, first)?;
+    take_in(alloc, setup, shard, first + 1)?;
+    take_in(alloc, setup, shard, first + 2)?;
+    take_in(alloc, setup, shard, first + 3)?;
+    take_in(alloc, setup, shard, first + 4)
 }
 
 fn row_batch(alloc: Global, setup: &Setup, number: u64) -> Result<Arc<Batch>, Stop>

@@ -63,6 +63,10 @@ pub static KINDS: &[KindName] = &[
         kind: 13,
         name: "fold",
     },
+    KindName {
+        kind: 18,
+        name: "groups",
+    },
 ];
 
 /// The codes of refusals, rising.

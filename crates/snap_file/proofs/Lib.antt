@@ -24,3 +24,4 @@ pub mod AheadLemmas
 pub mod MemoryLaws
 pub mod StartLemmas
 pub mod SaveLemmas
+mod SystemLaws

@@ -23,7 +23,7 @@ use Rattle.batch_store.specs.Verdicts.{total_of_entries}
 use Rattle.batch_store.proofs.BookLaws.{entries-with}
 use Rattle.snap_file.proofs.Kept.{IsSetup, CutsFrom, AreNew, IsReadable, total_parts}
 use Rattle.crc32c.specs.Remainders.{checksum_of}
-use Rattle.snap_file.specs.Origins.{identity, origin, no_window, unknown, IsIdentity}
+use Rattle.snap_file.specs.Origins.{identity, origin, unknown, IsIdentity}
 use Rattle.snap_file.specs.Spelling.{flag, origin_bytes, origin_in, checked_version, old_most_batches, most_batches_of}
 use Rattle.snap_file.specs.declared.origin.Origin.{Origin}
 use Rattle.snap_file.specs.Spelling.{IsBytes, number_bytes, mark, old_version, version, head_bytes, cells_bytes}

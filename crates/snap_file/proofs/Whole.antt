@@ -20,7 +20,7 @@ use Rattle.batch_store.specs.declared.verdict.Entry.{Entry}
 use Rattle.batch_store.proofs.BookLaws.{entries-with}
 use Rattle.hyper_matrix.specs.Shared.{LiesWithin}
 use Rattle.snap_file.proofs.Kept.{AreNew, IsReadable, total_parts}
-use Rattle.snap_file.specs.Origins.{identity, origin, unknown, IsIdentity}
+use Rattle.snap_file.specs.Origins.{origin, unknown, IsIdentity}
 use Rattle.snap_file.specs.Spelling.{flag, origin_bytes, origin_in, checked_version, most_batches_of}
 use Rattle.snap_file.specs.declared.origin.Origin.{Origin}
 use Rattle.snap_file.specs.Spelling.{old_version, version, head_bytes, cells_bytes, matrix_bytes, batch_bytes, entry_bytes}

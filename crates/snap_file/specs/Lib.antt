@@ -8,3 +8,4 @@ pub mod Lists
 pub mod Snapshots
 pub mod Files
 pub mod Saving
+pub mod System

@@ -1,17 +1,17 @@
 //! The real folder of a file, as a save of that file sees it.
-ghost use Rattle.std.specs.Prelude.{◌≡◌, ◌⊎◌, ◌+◌, ◌<◌, ◌^◌, None, IsTrue, IfOk, IfErr, ⊤};
+ghost use Rattle.std.specs.Prelude.{◌≡◌, ◌⊎◌, ◌+◌, ◌<◌, ◌^◌, None, IsTrue, IfOk, IfErr, OnOk};
 ghost use Rattle.std.proofs.Common.{◌∙◌};
 ghost use Rattle.snap_file.specs.Saving.{unfinished, beside};
+ghost use Rattle.snap_file.specs.System.{CallOf, IsRenamed, WriteOf, make};
 ghost use Rattle.snap_file.specs.declared.fault.SaveFault.{SaveFault};
 
-use crate::access::{access_under, clear, make_file};
 use crate::fault::SaveFault;
 use crate::saving::UNFINISHED;
+use crate::system::{FileSystem, RealFiles};
 use byte_io::DeviceFault;
 use file_folder::Folder;
 use std::alloc::Global;
-use std::fs::{self, OpenFile};
-use std::io::{self, Write};
+use std::io;
 use std::path::Path;
 use std::rt::Files;
 
@@ -20,12 +20,12 @@ use std::rt::Files;
 ///
 /// A rename is done once the folder is synced. Where that fails, the file has its new name already.
 #[derive(Drop)]
-pub struct Beside<'a, R: Files> {
-    rt: &'a R,
+pub struct Beside<'a, S: FileSystem> {
+    system: S,
     path: &'a str,
     // Whether the file is made, and has its first name.
     is_made: bool,
-    file: Option<R::File>,
+    file: Option<S::File>,
     // The system's number of the error by which a call failed last.
     error: Option<i32>,
     failures: u64,
@@ -42,16 +42,14 @@ fn is_unfinished(name: &str, path: &str) -> bool
 }
 
 /// Makes the file of this name, if it is to take the place of the one under the path.
-fn made_beside<R: Files>(rt: &R, path: &str, name: &str) -> io::Result<R::File>
-    ensures { IfOk result (λ _. name.now ≡ unfinished path.now) }
+fn made_beside<S: FileSystem>(system: &mut S, path: &str, name: &str) -> io::Result<S::File>
+    ensures name { IfOk result (λ _. name.now ≡ unfinished path.now) }
+    ensures made { OnOk result (S.did system.old (make name.now) system.new) }
 {
     if !is_unfinished(name, path) {
         return Err(io::Error::from(io::ErrorKind::Other));
     }
-    let Ok(access) = access_under(rt, path) else {
-        return Err(io::Error::from(io::ErrorKind::Other));
-    };
-    make_file(rt, name, access)
+    system.make(path, name)
 }
 
 /// The folder that a path's file is in.
@@ -64,19 +62,26 @@ pub fn folder_of(path: &str) -> &str {
 
 /// Gives a file another name in its folder, and brings that to where it outlasts a crash. Nothing is renamed where the
 /// folder can't be opened.
-fn rename_synced<R: Files>(rt: &R, from: &str, to: &str) -> io::Result<()> {
-    let folder = fs::open(rt, folder_of(to))?;
-    fs::rename(rt, from, to)?;
-    folder.sync_all()
+fn rename_synced<S: FileSystem>(system: &mut S, from: &str, to: &str) -> io::Result<()>
+    ensures { OnOk result (IsRenamed S.did system.old from.now to.now system.new) }
+{
+    let folder = system.open_folder(folder_of(to))?;
+    system.rename(from, to)?;
+    system.sync_folder(&folder)
 }
 
 /// Makes the new file of a save, syncs its folder, and removes it.
-fn make_and_remove<R: Files>(rt: &R, path: &str, name: &str) -> io::Result<()> {
-    let access = access_under(rt, path).map_err(|_| io::Error::from(io::ErrorKind::Other))?;
-    drop(make_file(rt, name, access)?);
-    let synced = fs::open(rt, folder_of(path)).and_then(|folder| folder.sync_all());
-    clear(rt, name)?;
+fn make_and_remove<S: FileSystem>(system: &mut S, path: &str, name: &str) -> io::Result<()> {
+    drop(system.make(path, name)?);
+    let synced = sync_folder_of(system, path);
+    system.remove(name)?;
     synced
+}
+
+/// Syncs the folder of a path's file.
+fn sync_folder_of<S: FileSystem>(system: &mut S, path: &str) -> io::Result<()> {
+    let opened = system.open_folder(folder_of(path))?;
+    system.sync_folder(&opened)
 }
 
 /// Tries whether a save under `path` could make its file: makes one there as a save does, syncs the folder, and removes
@@ -91,19 +96,20 @@ pub fn try_save<R: Files>(rt: &R, alloc: Global, path: &str) -> Result<(), SaveF
     let Ok(name) = format!(in alloc; "{path}{UNFINISHED}") else {
         return Err(SaveFault::Memory);
     };
-    match make_and_remove(rt, path, name.as_str()) {
+    match make_and_remove(&mut RealFiles::new(rt), path, name.as_str()) {
         Ok(()) => Ok(()),
         Err(_) => Err(SaveFault::Create),
     }
 }
 
-impl<'a, R: Files> Beside<'a, R> {
+impl<'a, S: FileSystem> Beside<'a, S> {
     /// The folder of the file under this path.
-    pub fn new(rt: &'a R, path: &'a str) -> Beside<'a, R>
-        ensures { result.failures ≡ 0 }
+    pub fn new(system: S, path: &'a str) -> Beside<'a, S>
+        ensures failures { result.failures ≡ 0 }
+        ensures system { result.system ≡ system }
     {
         Beside {
-            rt,
+            system,
             path,
             is_made: false,
             file: None,
@@ -114,13 +120,13 @@ impl<'a, R: Files> Beside<'a, R> {
 
     /// Removes the file that it made, which a save that failed has left, so that it takes no room. Where that fails, or
     /// there is no memory for its name, it stays until the next save.
-    pub fn remove_made(&self, alloc: Global) {
+    pub fn remove_made(&mut self, alloc: Global) {
         if !self.is_made {
             return;
         }
         let path = self.path;
         if let Ok(name) = format!(in alloc; "{path}{UNFINISHED}") {
-            let _ = clear(self.rt, name.as_str());
+            let _ = self.system.remove(name.as_str());
         }
     }
 
@@ -139,23 +145,23 @@ impl<'a, R: Files> Beside<'a, R> {
     }
 }
 
-impl<'a, R: Files> Folder for Beside<'a, R> {
+impl<'a, S: FileSystem> Folder for Beside<'a, S> {
     ghost files = { λ _. None };
 
     ghost last_created = { λ s. beside s.is_made s.path.now };
 
-    ghost write_takes = { λ s offered answer t.
-        beside t.is_made t.path.now ≡ beside s.is_made s.path.now };
+    ghost write_takes = { λ s offered answer t. (beside t.is_made t.path.now ≡ beside s.is_made s.path.now)
+        × WriteOf S.did s.system answer t.system };
 
-    ghost call_gives = { λ s call answer t. ⊤ };
+    ghost call_gives = { λ s call answer t. CallOf S.did s.system call answer t.system };
 
     ghost failure_count = { λ s. s.failures };
 
-    ghost write_appends = { λ s t offered answer name same created. (same ∙ created, tt) };
+    ghost write_appends = { λ s t offered answer name took created. (took.0 ∙ created, tt) };
 
     /// Removes what stands under the name, a folder excepted, and makes the file anew.
     fn create(&mut self, name: &str) -> Result<(), DeviceFault> {
-        match made_beside(self.rt, self.path, name) {
+        match made_beside(&mut self.system, self.path, name) {
             Ok(file) => {
                 self.file = Some(file);
                 self.is_made = true;
@@ -174,7 +180,7 @@ impl<'a, R: Files> Folder for Beside<'a, R> {
         let Some(file) = &mut self.file else {
             return Err(self.fail());
         };
-        match file.write(buf) {
+        match self.system.write(file, buf) {
             Ok(count) => Ok(count),
             Err(error) => {
                 self.error = error.raw_os_error();
@@ -187,7 +193,7 @@ impl<'a, R: Files> Folder for Beside<'a, R> {
         let Some(file) = &self.file else {
             return Err(self.fail());
         };
-        match file.sync_all() {
+        match self.system.sync(file) {
             Ok(()) => Ok(()),
             Err(error) => {
                 self.error = error.raw_os_error();
@@ -199,7 +205,7 @@ impl<'a, R: Files> Folder for Beside<'a, R> {
     /// Closes the file, renames it, and syncs the folder. Of the file and the folder one is open at a time.
     fn rename(&mut self, from: &str, to: &str) -> Result<(), DeviceFault> {
         self.file = None;
-        if let Err(error) = rename_synced(self.rt, from, to) {
+        if let Err(error) = rename_synced(&mut self.system, from, to) {
             self.error = error.raw_os_error();
             return Err(self.fail());
         }

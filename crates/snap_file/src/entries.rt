@@ -1,40 +1,43 @@
 //! Reads matrices.
 //!
-//! The cells of one stand in order, each once. So they go into it a run at a time, without a sort and without a list of
-//! them all: the memory is that of the matrix and of one run, which is short beside the matrix.
+//! The cells of one stand in order, each once. So they are read into a list, and the matrix takes it over, without a
+//! sort and without a copy.
 ghost use Rattle.std.specs.Prelude.{◌≡◌, ℕ, ◌+◌, ◌<◌, ◌≤◌, ◌^◌, IfOk, OnOk, IfErr};
+ghost use Rattle.cells.specs.Bounds.{AreWithin};
+ghost use Rattle.cells.specs.Order.{Rise};
 ghost use Rattle.cells.specs.Sums.{cell_total};
-ghost use Rattle.hyper_matrix.specs.Counts.{total, ewise_add};
 ghost use Rattle.hyper_matrix.specs.Cells.{built_of};
 ghost use Rattle.hyper_matrix.specs.Matrix.{matrix};
 ghost use Rattle.snap_file.specs.Table.{Reading, Tally, no_cells, cells_behind};
 ghost use Rattle.snap_file.specs.Outcomes.{Task, HasJudged, IsBehindHead, Stops};
-ghost use Rattle.snap_file.specs.Tallies.{IsRun};
 ghost use Rattle.snap_file.specs.declared.fault.SnapFault.{SnapFault};
 
 use crate::fault::SnapFault;
 use crate::head::Head;
-use crate::limits::RUN_CELLS;
+use crate::limits::FIRST_CELLS;
 use crate::reader::ByteReader;
 use crate::tally::{CellTally, read_cells};
 use byte_io::Source;
+use cells::Cell;
 use hyper_matrix::Hyper;
 use std::alloc::Global;
+use std::mem;
 
-// A matrix with a run of cells added, of which each stands behind the cells that it has.
-fn with_run(alloc: Global, m: Hyper, tally: &CellTally) -> Result<Hyper, SnapFault>
-    requires run { IsRun m.rows m.cols tally.now.cells.items tally.now.least_row tally.now.least_col }
-    requires fits { total m.counts + cell_total tally.now.cells.items < 2 ^ 64 }
-    ensures ok { IfOk result (λ sum. sum ≡ record m { counts = ewise_add m.counts (built_of tally.now.cells.items) }) }
+// The matrix of cells that were read. It takes their list over.
+fn matrix_of(alloc: Global, head: &Head, cells: Vec<Cell>) -> Result<Hyper, SnapFault>
+    requires rises { Rise cells.items }
+    requires within { AreWithin head.now.setup.rows head.now.setup.cols cells.items }
+    requires fits { cell_total cells.items < 2 ^ 64 }
+    ensures ok { IfOk result (λ m. m ≡ matrix head.now.setup.rows head.now.setup.cols (built_of cells.items)) }
     ensures err { IfErr result (λ f. f ≡ SnapFault.Memory) }
 {
-    match m.into_sum_with_cells(alloc, &tally.cells) {
-        Ok(sum) => Ok(sum),
+    match Hyper::from_sorted(alloc, head.setup.rows(), head.setup.cols(), cells) {
+        Ok(m) => Ok(m),
         Err(_) => Err(SnapFault::Memory),
     }
 }
 
-/// Reads the cells of a matrix, a run at a time; the counts together may come to `most`.
+/// Reads the cells of a matrix; the counts together may come to `most`.
 pub fn read_entries<R: Source>(
     alloc: Global,
     reader: &mut ByteReader,
@@ -61,16 +64,13 @@ pub fn read_entries<R: Source>(
         Stops R.read_gives R.failure_count (R.at_end r.new) task s r.new f) }
     ensures no_failure { OnOk result (R.failure_count r.new ≡ R.failure_count r.old) }
 {
-    let mut m = Hyper::new(alloc, head.setup.rows(), head.setup.cols());
     tally.least_row = 0;
     tally.least_col = 0;
-    let mut left = count;
-    'runs: while left > 0 {
-        let run = left.min(RUN_CELLS);
-        tally.cells.clear();
-        read_cells(reader, r, head, most, tally, run)?;
-        m = with_run(alloc, m, tally)?;
-        left -= run;
-    }
+    tally.cells.clear();
+    // Where memory is refused here, the first cell is told so.
+    let _room = tally.cells.reserve_exact(count.min(FIRST_CELLS) as usize);
+    read_cells(reader, r, head, most, tally, count)?;
+    let cells = mem::replace(&mut tally.cells, Vec::new(alloc));
+    let m = matrix_of(alloc, head, cells)?;
     Ok(m)
 }

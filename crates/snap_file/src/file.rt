@@ -2,9 +2,11 @@
 //!
 //! Nothing is known beforehand of a real file's bytes, so what these calls do to one is shown by tests: the contracts
 //! that they rest on are those of `save_in` and `read_snapshot`.
-ghost use Rattle.std.specs.Prelude.{◌≢◌, IfErr};
+ghost use Rattle.std.specs.Prelude.{◌≢◌, IfErr, OnOk};
 ghost use Rattle.batch_store.specs.Books.{AreAccepted, accepted_in};
 ghost use Rattle.snap_file.specs.Snapshots.{HasBase};
+ghost use Rattle.snap_file.specs.Spelling.{file};
+ghost use Rattle.snap_file.specs.System.{HasReplaced};
 ghost use Rattle.snap_file.specs.declared.fault.SnapFault.{SnapFault};
 ghost use Rattle.snap_file.specs.declared.fault.FileFault.{FileFault};
 
@@ -14,6 +16,7 @@ use crate::origin::Origin;
 use crate::read::read_snapshot;
 use crate::saving::save_in;
 use crate::snapshot::Snapshot;
+use crate::system::{FileSystem, RealFiles};
 use batch_store::{BookList, Setup};
 use byte_io::Counted;
 use progress::{Unwatched, Watch, Watched};
@@ -67,7 +70,24 @@ pub fn save_telling<R: Files>(
     requires accepted { AreAccepted setup.now (accepted_in list.now) }
     requires based { HasBase setup.now list.now }
 {
-    let mut folder = Beside::new(rt, path);
+    save_by(RealFiles::new(rt), alloc, path, origin, setup, list)
+}
+
+/// Saves a snapshot so, by the calls of a file system.
+pub fn save_by<S: FileSystem>(
+    system: S,
+    alloc: Global,
+    path: &str,
+    origin: Origin,
+    setup: &Setup,
+    list: &BookList,
+) -> (Result<(), SaveFault>, Option<i32>)
+    requires accepted { AreAccepted setup.now (accepted_in list.now) }
+    requires based { HasBase setup.now list.now }
+    // The file was made, written whole, and synced; then a folder was opened, the file renamed, and the folder synced.
+    ensures { OnOk result.0 (HasReplaced S.did system path.now (file origin setup.now (accepted_in list.now))) }
+{
+    let mut folder = Beside::new(system, path);
     let saved = save_in(alloc, &mut folder, path, origin, setup, list);
     if saved.is_err() {
         folder.remove_made(alloc);

@@ -15,9 +15,9 @@ pub const VERSION: u32 = 4;
 /// Batches: the most that a setup may allow in a file of an older version.
 pub const OLD_MAX_BATCHES: u64 = 1_000_000;
 
-/// Cells: so many of a matrix are read at a time, 96 KiB of them, which stay in the processor's own memory until they
-/// stand in the matrix.
-pub const RUN_CELLS: u64 = 4_096;
+/// Cells: room for so many of a matrix is made at once, 96 KiB. A longer list grows with the cells that come, so that a
+/// number in a file alone takes no memory.
+pub const FIRST_CELLS: u64 = 4_096;
 
 /// Bytes: those of a cell.
 pub const CELL_BYTES: usize = 24;

@@ -78,8 +78,8 @@ fn read_whole<R: Source>(
 /// reads.
 ///
 /// Takes time in proportion to the bytes, and for each batch in the logarithm of their number. The memory is that of
-/// the list, 64 KiB that are read at once, one run of at most 4,096 cells, and a place in a tree for each pair of
-/// client and number: nothing is reserved by a number that the file declares. `r` must have failed less than 2^64 - 1
+/// the list, 64 KiB that are read at once, and a place in a tree for each pair of client and number. By a number that
+/// the file declares room for at most 4,096 cells is made. `r` must have failed less than 2^64 - 1
 /// times before.
 ///
 /// # Errors

@@ -13,6 +13,7 @@ use log_file::LogMark;
 use log_folder::{FileLogFolder, FolderFault, LogFolder, LogNews, Refusal, StartedLog};
 use log_start::{LogOwner, StartFault, Started};
 use session_pool::{FileLog, HeadFault, log_head_at};
+use snap_file::RealFiles;
 use std::alloc::Global;
 use std::fs::{self, File};
 use std::rt::Files;
@@ -36,7 +37,10 @@ const LOOKS: usize = 20;
 const PAUSE: u64 = 50;
 
 // Waits a second at most, while another process has the log's file.
-fn await_file<R: Files<File = File> + Clock>(rt: &R, folder: &FileLogFolder<'_, R>) {
+fn await_file<R: Files<File = File> + Clock>(
+    rt: &R,
+    folder: &FileLogFolder<'_, R, RealFiles<'_, R>>,
+) {
     for _ in 0..LOOKS {
         if !folder.is_in_use() {
             break;

@@ -11,7 +11,7 @@ use log_disk::LogDisk;
 use log_folder::{FileDisk, FileLogFolder, LogFolder, give_name, make_with_head};
 use snap_file::FileFault;
 use std::alloc::Global;
-use std::fs;
+use std::fs::{self, File};
 use std::process::ExitCode;
 
 const PATH: &str = "a.log";
@@ -111,7 +111,7 @@ fn blank_page() -> [u8; 4096]
 }
 
 /// Writes behind the end of a file, reads over the new end, writes zeros, and cuts all of it off again.
-fn use_disk(rt: &HostRuntime, disk: &mut FileDisk) -> Result<(), Stop>
+fn use_disk(rt: &HostRuntime, disk: &mut FileDisk<File>) -> Result<(), Stop>
     requires sound { disk.old.in_doubt ≡ false }
     requires failures { disk.old.failures + 1 < 2 ^ 64 }
 {

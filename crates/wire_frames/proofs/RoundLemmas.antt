@@ -6,9 +6,10 @@ use Rattle.std.proofs.lemmas.Bool.{le-ltb, le-leb}
 use Rattle.std.proofs.lemmas.Nat.{from_be_bytes-to_be_bytes_4, from_be_bytes-to_be_bytes_8}
 use Rattle.wire_frames.specs.Frames.{front, frame, head_bytes, number, head_len, head_kind, head_fault, fault_of_kind}
 use Rattle.wire_frames.specs.Frames.{length_fits, request_of, number_at, request_frame, HasFrame, AreNumbers, pair, range_at}
+use Rattle.wire_frames.specs.Frames.{groups_at}
 use Rattle.wire_frames.specs.declared.request.Request.{Request}
 use Rattle.wire_frames.specs.declared.request.Request.TheVariants.{Put, Cell, Row, Status, Export, Save, Stop}
-use Rattle.wire_frames.specs.declared.request.Request.TheVariants.{PutCells, Stored, Range, Top, Stats, Fold}
+use Rattle.wire_frames.specs.declared.request.Request.TheVariants.{PutCells, Stored, Range, Top, Stats, Fold, Groups}
 use Rattle.wire_frames.proofs.FrontLemmas.{front_whole}
 
 pub kind_read : (k : ℕ) (body more : List ℕ) → head_kind (frame k body ++ more) ≡ k
@@ -145,6 +146,25 @@ top_read : (by most : ℕ) → most < 2 ^ 64 → request_of 11 (by ∷ number mo
 unfolding request_of number_at number
 top_read by most h = ap (Top by) (from_be_bytes-to_be_bytes_8 most h)
 
+groups_fit : (by shift most : ℕ) (rows : ℕ × ℕ) →
+    length_fits 18 (length (by ∷ shift ∷ (number most ++ pair rows))) ≡ Some true
+unfolding length_fits number
+groups_fit by shift most rows = refl
+
+groups_number : (by shift most a b : ℕ) → most < 2 ^ 64 → a < 2 ^ 64 → b < 2 ^ 64 →
+    groups_at (by ∷ shift ∷ (number most ++ pair (a, b))) ≡ Groups by shift most (a, b)
+unfolding number_at number
+groups_number by shift most a b hm ha hb = rw (
+  from_be_bytes-to_be_bytes_8 most hm,
+  from_be_bytes-to_be_bytes_8 a ha,
+  from_be_bytes-to_be_bytes_8 b hb,
+) refl
+
+groups_read : (by shift most : ℕ) (rows : ℕ × ℕ) → most < 2 ^ 64 → rows.0 < 2 ^ 64 → rows.1 < 2 ^ 64 →
+    request_of 18 (by ∷ shift ∷ (number most ++ pair rows)) ≡ Groups by shift most rows
+unfolding request_of
+groups_read by shift most rows hm ha hb = groups_number by shift most rows.0 rows.1 hm ha hb
+
 -- the front of a request's frame
 pub front_again : (r : Request) (more : List ℕ) → HasFrame r → front (request_frame r ++ more) ≡ Some (Ok r, more)
 unfolding request_of length_fits
@@ -184,3 +204,6 @@ front_again Stats more h = front_of_frame 12 [] more h.short refl
 front_again Fold more h = front_of_frame 13 [] more h.short refl
 front_again (Top by most) more h = front_of_frame 11 (by ∷ number most) more h.short (top_fits by most) ∙
     ap (λ x. Some (Ok x, more)) (top_read by most h.numbers.1)
+front_again (Groups by shift most rows) more h =
+    front_of_frame 18 (by ∷ shift ∷ (number most ++ pair rows)) more h.short (groups_fit by shift most rows)
+    ∙ ap (λ x. Some (Ok x, more)) (groups_read by shift most rows h.numbers.2 h.numbers.3 h.numbers.4)

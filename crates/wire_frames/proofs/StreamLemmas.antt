@@ -5,7 +5,7 @@ use Rattle.wire_frames.specs.Frames.{front, Gives, Message, frames, frames_by, f
 use Rattle.wire_frames.specs.Frames.{up_to_stop}
 use Rattle.wire_frames.specs.declared.request.Request.{Request}
 use Rattle.wire_frames.specs.declared.request.Request.TheVariants.{Put, Cell, Row, Status, Export, Save, Stop}
-use Rattle.wire_frames.specs.declared.request.Request.TheVariants.{PutCells, Stored, Range, Top, Stats, Fold}
+use Rattle.wire_frames.specs.declared.request.Request.TheVariants.{PutCells, Stored, Range, Top, Stats, Fold, Groups}
 use Rattle.wire_frames.specs.declared.request.FrameFault.{FrameFault}
 use Rattle.wire_frames.proofs.FrontLemmas.{front_more, front_short, front_shorter}
 
@@ -86,6 +86,7 @@ up_more (PutCells x y z) ms h = refl
 up_more Stored ms h = refl
 up_more (Range x y z n) ms h = refl
 up_more (Top x n) ms h = refl
+up_more (Groups x s n r) ms h = refl
 up_more Stats ms h = refl
 up_more Fold ms h = refl
 up_more Stop ms h = absurd (h refl)

@@ -5,7 +5,7 @@ use Rattle.std.specs.Prelude.{Result, Ok, Err}
 use Rattle.std.specs.Int.{w32, w64, to_be_bytes, from_be_bytes}
 use Rattle.wire_frames.specs.declared.request.Request.{Request}
 use Rattle.wire_frames.specs.declared.request.Request.TheVariants.{Put, Cell, Row, Status, Export, Save, Stop}
-use Rattle.wire_frames.specs.declared.request.Request.TheVariants.{PutCells, Stored, Range, Top, Stats, Fold}
+use Rattle.wire_frames.specs.declared.request.Request.TheVariants.{PutCells, Stored, Range, Top, Stats, Fold, Groups}
 use Rattle.wire_frames.specs.declared.request.FrameFault.{FrameFault}
 use Rattle.wire_frames.specs.declared.request.FrameFault.TheVariants.{Memory, TooLarge, UnknownKind, BadLength}
 
@@ -35,6 +35,7 @@ kind_of (Range rows cols start most) = 10
 kind_of (Top by most) = 11
 kind_of Stats = 12
 kind_of Fold = 13
+kind_of (Groups by shift most rows) = 18
 
 abbrev pub pair : ℕ × ℕ → List ℕ
 pair p = number p.0 ++ number p.1
@@ -53,6 +54,7 @@ body_of (Range rows cols start most) = pair rows ++ pair cols ++ pair start ++ n
 body_of (Top by most) = by ∷ number most
 body_of Stats = []
 body_of Fold = []
+body_of (Groups by shift most rows) = by ∷ shift ∷ (number most ++ pair rows)
 
 abbrev pub request_frame : Request → List ℕ
 request_frame r = frame (kind_of r) (body_of r)
@@ -74,6 +76,8 @@ AreNumbers (Range rows cols start most) =
 AreNumbers (Top by most) = (by < 2 ^ 8) × (most < 2 ^ 64)
 AreNumbers Stats = Unit {0}
 AreNumbers Fold = Unit {0}
+AreNumbers (Groups by shift most rows) =
+    (by < 2 ^ 8) × (shift < 2 ^ 8) × (most < 2 ^ 64) × (rows.0 < 2 ^ 64) × (rows.1 < 2 ^ 64)
 
 -- a whole number of cells, of 24 bytes each
 abbrev pub IsWhole : List ℕ → Type 0
@@ -101,6 +105,7 @@ length_fits kind len =
     else if kind == 11 then Some (len == 9)
     else if kind == 12 then Some (len == 0)
     else if kind == 13 then Some (len == 0)
+    else if kind == 18 then Some (len == 26)
     else None
 
 abbrev pub fault_of_kind : Option Bool → Option FrameFault
@@ -122,6 +127,9 @@ pair_at place body = (number_at place body, number_at (place + 8) body)
 abbrev pub range_at : List ℕ → Request
 range_at body = Range (pair_at 0 body) (pair_at 16 body) (pair_at 32 body) (number_at 48 body)
 
+abbrev pub groups_at : List ℕ → Request
+groups_at body = Groups (slice_index body 0) (slice_index body 1) (number_at 2 body) (pair_at 10 body)
+
 -- the request that a body of this kind spells
 unfoldable pub request_of : ℕ → List ℕ → Request
 request_of kind body =
@@ -137,6 +145,7 @@ request_of kind body =
     else if kind == 10 then range_at body
     else if kind == 11 then Top (slice_index body 0) (number_at 1 body)
     else if kind == 12 then Stats
+    else if kind == 18 then groups_at body
     else Fold
 
 unfoldable pub head_len : List ℕ → ℕ

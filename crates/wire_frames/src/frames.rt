@@ -1,6 +1,6 @@
 //! Cuts the bytes of a link into requests.
 ghost use Rattle.std.specs.Prelude.{◌≡◌, ◌++◌, [], ◌+◌, ◌≤◌, length, take, drop, true, Some, IfOk, OnOk, OnErr};
-ghost use Rattle.wire_frames.specs.Frames.{NextGives, request_of, range_at, pair_at, length_fits};
+ghost use Rattle.wire_frames.specs.Frames.{NextGives, request_of, range_at, groups_at, pair_at, length_fits};
 
 use crate::heads::{Look, look_at};
 use crate::limits::{HEAD, ROOMY};
@@ -61,6 +61,24 @@ fn open_range(mut body: Bytes) -> Request
     }
 }
 
+/// The question for groups that a body spells.
+#[tactic(auto, unfolding(crate::specs::Frames::number_at))]
+fn open_groups(mut body: Bytes) -> Request
+    requires { length body ≡ 26 }
+    ensures { result ≡ groups_at body }
+{
+    let by = body.get_u8();
+    let shift = body.get_u8();
+    let most = body.get_u64();
+    let rows = get_pair(&mut body);
+    Request::Groups {
+        by,
+        shift,
+        most,
+        rows,
+    }
+}
+
 /// The request that a whole frame spells, of a kind and a length that fit.
 #[tactic(auto, unfolding(crate::specs::Frames::request_of, crate::specs::Frames::length_fits, crate::specs::Frames::number_at))]
 fn open(kind: u8, mut body: Bytes) -> Request
@@ -103,6 +121,7 @@ fn open(kind: u8, mut body: Bytes) -> Request
             Request::Top { by, most }
         }
         12 => Request::Stats,
+        18 => open_groups(body),
         _ => Request::Fold,
     }
 }

@@ -57,6 +57,7 @@ fn fits(head: Head) -> Option<bool>
         11 => Some(head.len == 9),
         12 => Some(head.len == 0),
         13 => Some(head.len == 0),
+        18 => Some(head.len == 26),
         _ => None,
     }
 }

@@ -11,7 +11,8 @@ use thiserror::Error;
 ///
 /// The cells of a `PutCells` are 24 bytes each: row, column and count, of eight bytes, the high one first. A `Range` has
 /// the first and the last of its rows and of its columns, and the place, a row and a column, from which on cells are
-/// asked for. A `Top` is by total where `by` is 0, and by entries where it is 1.
+/// asked for. A `Top` is by total where `by` is 0, and by entries where it is 1. A `Groups` has also the first and the
+/// last of its rows, and by how many bits their numbers are shifted to the right.
 #[derive(Drop)]
 pub enum Request {
     Put {
@@ -48,6 +49,12 @@ pub enum Request {
     },
     Stats,
     Fold,
+    Groups {
+        by: u8,
+        shift: u8,
+        most: u64,
+        rows: (u64, u64),
+    },
 }
 
 /// What is wrong with the bytes of a link, or that memory ran out.
@@ -117,6 +124,7 @@ fn kind(request: &Request) -> u8
         Request::Top { .. } => 11,
         Request::Stats => 12,
         Request::Fold => 13,
+        Request::Groups { .. } => 18,
     }
 }
 
@@ -132,6 +140,7 @@ fn body_len(request: &Request) -> usize
         Request::Row { .. } => 8,
         Request::Range { .. } => 56,
         Request::Top { .. } => 9,
+        Request::Groups { .. } => 26,
         Request::Status
         | Request::Export
         | Request::Save
@@ -190,6 +199,16 @@ fn push_body(out: &mut Vec<u8>, request: &Request) -> Result<(), AllocError>
         Request::Top { by, most } => {
             out.extend_from_slice(&[*by])?;
             push_number(out, *most)
+        }
+        Request::Groups {
+            by,
+            shift,
+            most,
+            rows,
+        } => {
+            out.extend_from_slice(&[*by, *shift])?;
+            push_number(out, *most)?;
+            push_pair(out, *rows)
         }
         Request::Status
         | Request::Export

@@ -10,8 +10,8 @@ use Rattle.wire_proto.specs.Replies.{lines_reply}
 use Rattle.mm_laws.specs.MatrixText.{matrix_text}
 use Rattle.std.proofs.Common.{OnErr, IfOk, Err, subst}
 use Rattle.std.specs.declared.alloc.AllocError.{AllocError}
-use Rattle.wire_frames.specs.declared.request.Request.TheVariants.{Range, Top, Stats, Fold}
-use Rattle.wire_proto.specs.Questions.{AreBounds, IsCount}
+use Rattle.wire_frames.specs.declared.request.Request.TheVariants.{Range, Top, Stats, Fold, Groups}
+use Rattle.wire_proto.specs.Questions.{AreBounds, IsCount, AreRows, AreGroups}
 use Rattle.wire_proto.specs.Answering.{Answers, asked, RunsOut, in_call}
 use Rattle.hyper_matrix.specs.Matrix.{Matrix}
 use Rattle.wire_frames.specs.declared.request.Request.TheVariants.{Cell as CellAt, Row, Status, Export, Save, Stored}
@@ -91,6 +91,14 @@ pub top_lacks : {S : Type 0} (gives : S → Event → S → Type 0) (setup : Set
     (lack : AllocError) → by ≤ 1 → IsCount most → gives s (export (Err lack)) t →
     RunsOut gives setup (Top by most) s t
 top_lacks gives setup s t by most lack b n h = in_call (export (Err lack)) (b, n, lack, refl) h refl
+
+pub groups_lack : {S : Type 0} (gives : S → Event → S → Type 0) (setup : Setting) (s t : S) (by shift most : ℕ)
+    (rows : ℕ × ℕ) (lack : AllocError) → AreRows setup rows → AreGroups by shift most → gives s (export (Err lack)) t →
+    RunsOut gives setup (Groups by shift most rows) s t
+groups_lack gives setup s t by shift most rows lack b n h = in_call (export (Err lack)) (b, n, lack, refl) h refl
+
+pub rows_from : (judged setup : Setting) (rows : ℕ × ℕ) → AreRows judged rows → judged ≡ setup → AreRows setup rows
+rows_from judged setup rows h e = subst (λ v. AreRows v rows) e h
 
 -- ---- what a store tells of itself
 pub stats_answered : {S : Type 0} (gives : S → Event → S → Type 0) (setup : Setting) (s t : S) (told : Telling)

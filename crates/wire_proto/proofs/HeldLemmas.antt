@@ -14,7 +14,7 @@ use Rattle.wire_frames.specs.Frames.{front, Gives, NextGives}
 use Rattle.wire_frames.proofs.StreamLemmas.{gives_snoc}
 use Rattle.wire_frames.specs.declared.request.Request.{Request}
 use Rattle.wire_frames.specs.declared.request.Request.TheVariants.{Put, PutCells, Cell, Row, Status, Export, Save, Stop}
-use Rattle.wire_frames.specs.declared.request.Request.TheVariants.{Stored, Range, Top, Stats, Fold}
+use Rattle.wire_frames.specs.declared.request.Request.TheVariants.{Stored, Range, Top, Stats, Fold, Groups}
 use Rattle.wire_frames.specs.declared.request.FrameFault.{FrameFault}
 use Rattle.wire_proto.specs.Closing.{Closes, ClosesBehind, held_sent, held_cut, ended_of}
 use Rattle.wire_proto.specs.Keeping.{Event, put, settled}
@@ -126,6 +126,7 @@ asks_put setup Stop batch answer p = absurd p
 asks_put setup Stored batch answer p = absurd p
 asks_put setup (Range rows cols start most) batch answer p = absurd p
 asks_put setup (Top by most) batch answer p = absurd p
+asks_put setup (Groups by shift most rows) batch answer p = absurd p
 asks_put setup Stats batch answer p = absurd p
 asks_put setup Fold batch answer p = absurd p
 

@@ -42,14 +42,18 @@ use Rattle.wire_proto.specs.declared.keeper.FoldRefusal.{FoldRefusal}
 use Rattle.wire_proto.specs.declared.keeper.FoldRefusal.TheVariants as no_fold
 use Rattle.wire_frames.specs.declared.request.Request.{Request}
 use Rattle.wire_frames.specs.declared.request.Request.TheVariants.{Put, Cell as CellAt, Row, Status, Export, Save, Stop}
-use Rattle.wire_frames.specs.declared.request.Request.TheVariants.{PutCells, Stored, Range, Top, Stats, Fold}
+use Rattle.wire_frames.specs.declared.request.Request.TheVariants.{PutCells, Stored, Range, Top, Stats, Fold, Groups}
 use Rattle.std.specs.FinMap.{entries, entries_sorted}
 use Rattle.cell_queries.specs.Tallies.{tallies}
 use Rattle.cell_queries.specs.Tops.{IsTop}
 use Rattle.cell_queries.specs.declared.top.TopBy.{TopBy}
 use Rattle.cell_queries.proofs.OneTop.{one_top}
+use Rattle.cell_queries.proofs.GroupLaws.{groups_rise}
+use Rattle.cell_queries.specs.Groups.{grouped}
+use Rattle.cell_queries.specs.declared.groups.RowGroups.{RowGroups}
 use Rattle.cell_queries.proofs.RowLaws.{rows_rise}
 use Rattle.wire_proto.specs.Questions.{AreBounds, IsCount, range_between, by_number, range_reply, rows_reply, TellsTop}
+use Rattle.wire_proto.specs.Questions.{AreRows, AreGroups, groups_of, TellsGroups}
 use Rattle.wire_proto.proofs.HasTop.{has_top}
 
 -- a text spells one file at most: its cells
@@ -229,6 +233,13 @@ one_telling by most m m' w w' e a b =
     a.2 ∙ ap rows_reply (one_top by most (tallies (entries m'.counts)) a.0 b.0
     (rows_rise (entries m'.counts) (entries_sorted m'.counts)) first b.1) ∙ sym b.2
 
+one_of_groups : (by : TopBy) (g : RowGroups) (most : ℕ) (m m' : Matrix) (w w' : List ℕ) → m ≡ m' →
+    TellsGroups by g most m w → TellsGroups by g most m' w' → w ≡ w'
+one_of_groups by g most m m' w w' e a b =
+    let first = subst (λ (x : Matrix). IsTop by most (tallies (grouped g (entries x.counts))) a.0) e a.1 in
+    a.2 ∙ ap rows_reply (one_top by most (tallies (grouped g (entries m'.counts))) a.0 b.0
+    (groups_rise g (entries m'.counts) (entries_sorted m'.counts)) first b.1) ∙ sym b.2
+
 pub one_answer : (v : Setting) (state : Accepted) (r : Request) (w w' : List ℕ) (t t' : Accepted) →
     Answers (PlainGives v) v r w state t → Answers (PlainGives v) v r w' state t' → Same w w' t t'
 one_answer v state (Put c n bytes) w w' t t' (asked e a h i) (asked e' a' h' i') =
@@ -342,6 +353,21 @@ one_answer v state (Range x y z n) w w' t t' (of_sum m b g) (of_sum m' b' g') = 
   b.2 ∙ ap (range_reply (range_between x y z) n) (g.0 ∙ sym g'.0) ∙ sym b'.2,
   g.1 ∙ sym g'.1,
 )
+one_answer v state (Groups x s n r) w w' t t' (asked e a h i) other = absurd (lacks e a.2 w a.3 i)
+one_answer v state (Groups x s n r) w w' t t' (unasked a i) (asked e' a' h' i') = absurd (lacks e' a'.2 w' a'.3 i')
+one_answer v state (Groups x s n r) w w' t t' (of_sum m b g) (asked e' a' h' i') = absurd (lacks e' a'.2 w' a'.3 i')
+one_answer v state (Groups x s n r) w w' t t' (unasked (inl a) i) (unasked (inl a') i') = (a.1 ∙ sym a'.1, i ∙ sym i')
+one_answer v state (Groups x s n r) w w' t t' (unasked (inl a) i) (unasked (inr a') i') = absurd (a.0 a'.0)
+one_answer v state (Groups x s n r) w w' t t' (unasked (inr a) i) (unasked (inl a') i') = absurd (a'.0 a.0)
+one_answer v state (Groups x s n r) w w' t t' (unasked (inr a) i) (unasked (inr a') i') = (a.2 ∙ sym a'.2, i ∙ sym i')
+one_answer v state (Groups x s n r) w w' t t' (unasked (inl a) i) (of_sum m b g) = absurd (a.0 b.0)
+one_answer v state (Groups x s n r) w w' t t' (unasked (inr a) i) (of_sum m b g) = absurd (a.1 b.1)
+one_answer v state (Groups x s n r) w w' t t' (of_sum m b g) (unasked (inl a) i) = absurd (a.0 b.0)
+one_answer v state (Groups x s n r) w w' t t' (of_sum m b g) (unasked (inr a) i) = absurd (a.1 b.1)
+one_answer v state (Groups x s n r) w w' t t' (of_sum m b g) (of_sum m' b' g') = (
+  one_of_groups (by_number x) (groups_of r s) n m m' w w' (g.0 ∙ sym g'.0) b.2 b'.2,
+  g.1 ∙ sym g'.1,
+)
 one_answer v state (Top x n) w w' t t' (asked e a h i) other = absurd (lacks e a.2 w a.3 i)
 one_answer v state (Top x n) w w' t t' (unasked a i) (asked e' a' h' i') = absurd (lacks e' a'.2 w' a'.3 i')
 one_answer v state (Top x n) w w' t t' (of_sum m b g) (asked e' a' h' i') = absurd (lacks e' a'.2 w' a'.3 i')
@@ -390,6 +416,8 @@ answered_once v state (Ok Stored ∷ ms) w w' t t' a b = then_one v state Stored
 answered_once v state (Ok (PutCells x y z) ∷ ms) w w' t t' a b = then_one v state (PutCells x y z) ms w w' t t'
     (λ m p q c d. answered_once v m ms p q t t' c d) a b
 answered_once v state (Ok (Range x y z n) ∷ ms) w w' t t' a b = then_one v state (Range x y z n) ms w w' t t'
+    (λ m p q c d. answered_once v m ms p q t t' c d) a b
+answered_once v state (Ok (Groups x s n r) ∷ ms) w w' t t' a b = then_one v state (Groups x s n r) ms w w' t t'
     (λ m p q c d. answered_once v m ms p q t t' c d) a b
 answered_once v state (Ok (Top x n) ∷ ms) w w' t t' a b = then_one v state (Top x n) ms w w' t t'
     (λ m p q c d. answered_once v m ms p q t t' c d) a b
@@ -561,6 +589,40 @@ has_rows v state by most = elim (cases_lt 1 by) [
   ]
 ]
 
+rows_or_not : (v : Setting) (rows : ℕ × ℕ) → AreRows v rows ⊎ (AreRows v rows → ⊥)
+rows_or_not v rows = elim (cases_lt rows.1 rows.0) [
+  | inl a ↦ inr (λ h. let k = h.0 in omega (arith, a, k))
+  | inr a ↦ elim (cases_lt rows.1 v.rows) [
+    | inl b ↦ inl (omega (arith, a), b)
+    | inr b ↦ inr (λ h. let k = h.1 in omega (arith, b, k))
+  ]
+]
+
+groups_or_not : (by shift most : ℕ) → AreGroups by shift most ⊎ (AreGroups by shift most → ⊥)
+groups_or_not by shift most = elim (cases_lt 1 by) [
+  | inl a ↦ inr (λ h. let k = h.0 in omega (arith, a, k))
+  | inr a ↦ elim (cases_lt shift 64) [
+    | inr b ↦ inr (λ h. let k = h.1 in omega (arith, b, k))
+    | inl b ↦ elim (count_or_not most) [
+      | inr bad ↦ inr (λ h. bad h.2)
+      | inl c ↦ inl (a, b, c)
+    ]
+  ]
+]
+
+has_groups : (v : Setting) (state : Accepted) (by shift most : ℕ) (rows : ℕ × ℕ) →
+    HasAnswer v state (Groups by shift most rows)
+has_groups v state by shift most rows = elim (rows_or_not v rows) [
+  | inr bad ↦ (refused 41 0, state, unasked (inl (bad, refl)) refl)
+  | inl b ↦ elim (groups_or_not by shift most) [
+    | inr bad ↦ (refused 44 0, state, unasked (inr (b, bad, refl)) refl)
+    | inl c ↦
+        let top = has_top (by_number by) most
+        (tallies (grouped (groups_of rows shift) (entries (export_of v state).counts))) in
+        (rows_reply top.0, state, of_sum (export_of v state) (b, c, (top.0, top.1, refl)) (refl, refl))
+  ]
+]
+
 then_some : (v : Setting) (state : Accepted) (r : Request) (ms : List Message) → HasAnswer v state r →
     ((m : Accepted) → (w : List ℕ) × (t : Accepted) × IsAnswered v m ms w t) →
     (w : List ℕ) × (t : Accepted) × (m : Accepted) × (reply : List ℕ) × (more : List ℕ) ×
@@ -594,6 +656,8 @@ has_answers v state (Ok (PutCells x y z) ∷ ms) = let h = then_some v state (Pu
     (λ m. has_answers v m ms) in (h.0, h.1, (h.2, h.3, h.4, h.5, h.6, h.7))
 has_answers v state (Ok (Range x y z n) ∷ ms) = let h = then_some v state (Range x y z n) ms (has_range v state x y z n)
     (λ m. has_answers v m ms) in (h.0, h.1, (h.2, h.3, h.4, h.5, h.6, h.7))
+has_answers v state (Ok (Groups x s n r) ∷ ms) = let h = then_some v state (Groups x s n r) ms
+    (has_groups v state x s n r) (λ m. has_answers v m ms) in (h.0, h.1, (h.2, h.3, h.4, h.5, h.6, h.7))
 has_answers v state (Ok (Top x n) ∷ ms) = let h = then_some v state (Top x n) ms (has_rows v state x n)
     (λ m. has_answers v m ms) in (h.0, h.1, (h.2, h.3, h.4, h.5, h.6, h.7))
 has_answers v state (Ok Stats ∷ ms) = let h = then_some v state Stats ms

@@ -19,7 +19,7 @@ use Rattle.wire_proto.specs.Plain.{PutsUnsent}
 use Rattle.wire_proto.specs.Plain.{EndsPlain}
 use Rattle.wire_frames.specs.declared.request.Request.{Request}
 use Rattle.wire_frames.specs.declared.request.Request.TheVariants.{Put, Cell, Row, Status, Export, Save, Stop}
-use Rattle.wire_frames.specs.declared.request.Request.TheVariants.{PutCells, Stored, Range, Top, Stats, Fold}
+use Rattle.wire_frames.specs.declared.request.Request.TheVariants.{PutCells, Stored, Range, Top, Stats, Fold, Groups}
 use Rattle.wire_proto.specs.declared.ended.Ended.{Ended}
 use Rattle.wire_proto.specs.declared.ended.Ended.TheVariants.{Closed, ReadFault, WriteFault, BadFrame, Memory, Stopped}
 use Rattle.wire_proto.specs.declared.ended.Ended.TheVariants.{TooManyTurns}
@@ -42,6 +42,7 @@ module _ {S : Type 0} (gives : S → Event → S → Type 0) (setup : Setting) w
   one_more s m t Stored reply more ms bytes n a e b = (m, reply, more, a, e, b)
   one_more s m t (Range x y z w) reply more ms bytes n a e b = (m, reply, more, a, e, b)
   one_more s m t (Top x w) reply more ms bytes n a e b = (m, reply, more, a, e, b)
+  one_more s m t (Groups x k w r) reply more ms bytes n a e b = (m, reply, more, a, e, b)
   one_more s m t Stats reply more ms bytes n a e b = (m, reply, more, a, e, b)
   one_more s m t Fold reply more ms bytes n a e b = (m, reply, more, a, e, b)
   one_more s m t Stop reply more ms bytes n a e b = absurd (n refl)
@@ -262,6 +263,7 @@ module _ {L S N : Type 0} (reads : L → Answer → L → Type 0) (writes : L �
   put_goes_on Stored h is = h
   put_goes_on (Range x y z n) h is = h
   put_goes_on (Top x n) h is = h
+  put_goes_on (Groups x s n r) h is = h
   put_goes_on Stats h is = h
   put_goes_on Fold h is = h
 

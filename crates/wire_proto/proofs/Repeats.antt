@@ -36,7 +36,7 @@ use Rattle.wire_proto.proofs.PlainLemmas.{one_more}
 use Rattle.wire_proto.proofs.FoldedLemmas.{folded_same, folded_all, folded_behind, folded_on, folded_entries}
 use Rattle.wire_frames.specs.declared.request.Request.{Request}
 use Rattle.wire_frames.specs.declared.request.Request.TheVariants.{Put, PutCells, Cell, Row, Status, Export, Save, Stop}
-use Rattle.wire_frames.specs.declared.request.Request.TheVariants.{Stored, Range, Top, Stats, Fold}
+use Rattle.wire_frames.specs.declared.request.Request.TheVariants.{Stored, Range, Top, Stats, Fold, Groups}
 
 -- ---- batches behind what was accepted
 none_behind : (state : Accepted) → with_batches state [] ≡ state
@@ -274,6 +274,7 @@ put_stored v state t c n (Put x y text) w k p (of_sum m b g) e = absurd b
 put_stored v state t c n (PutCells x y cells) w k p (of_sum m b g) e = absurd b
 put_stored v state t c n (Range x y z i) w k p a e = absurd p
 put_stored v state t c n (Top x i) w k p a e = absurd p
+put_stored v state t c n (Groups x s i r) w k p a e = absurd p
 put_stored v state t c n (Cell x y) w k p a e = absurd p
 put_stored v state t c n (Row x) w k p a e = absurd p
 put_stored v state t c n Status w k p a e = absurd p
@@ -368,6 +369,10 @@ adds v state t (Range x y z n) w (of_sum m b g) = inl ((λ x f. f), g.1)
 adds v state t (Top x n) w (asked ev a h i) = inl ((λ x f. f), export_keeps v state t ev (Err a.2) a.3 h)
 adds v state t (Top x n) w (unasked a i) = inl ((λ x f. f), i)
 adds v state t (Top x n) w (of_sum m b g) = inl ((λ x f. f), g.1)
+adds v state t (Groups x s n r) w (asked ev a h i) = inl ((λ x f. f), export_keeps v state t ev (Err a.2) a.3 h)
+adds v state t (Groups x s n r) w (unasked (inl a) i) = inl ((λ x f. f), i)
+adds v state t (Groups x s n r) w (unasked (inr a) i) = inl ((λ x f. f), i)
+adds v state t (Groups x s n r) w (of_sum m b g) = inl ((λ x f. f), g.1)
 adds v state t Stats w (asked ev a h i) = inl ((λ x f. f), stats_keeps v state t ev a.0 a.1 h)
 adds v state t Stats w (unasked a i) = inl ((λ x f. f), i)
 adds v state t Stats w (of_sum m b g) = absurd b
@@ -421,6 +426,7 @@ puts_same v a b Stop x e h = h
 puts_same v a b Stored x e h = h
 puts_same v a b (Range i j k n) x e h = h
 puts_same v a b (Top i n) x e h = h
+puts_same v a b (Groups i s n r) x e h = h
 puts_same v a b Stats x e h = h
 puts_same v a b Fold x e h = h
 
@@ -466,6 +472,8 @@ fresh_same v a b (Ok Save ∷ ms) more e h = first_same v a b Save ms more e
 fresh_same v a b (Ok Stored ∷ ms) more e h = first_same v a b Stored ms more e
     (λ c d rest same f. fresh_same v c d ms rest same f) h
 fresh_same v a b (Ok (Range x y z n) ∷ ms) more e h = first_same v a b (Range x y z n) ms more e
+    (λ c d rest same f. fresh_same v c d ms rest same f) h
+fresh_same v a b (Ok (Groups x s n r) ∷ ms) more e h = first_same v a b (Groups x s n r) ms more e
     (λ c d rest same f. fresh_same v c d ms rest same f) h
 fresh_same v a b (Ok (Top x n) ∷ ms) more e h = first_same v a b (Top x n) ms more e
     (λ c d rest same f. fresh_same v c d ms rest same f) h
@@ -514,6 +522,8 @@ all_adds v state t (Ok Stored ∷ ms) w a =
     then_adds v state a.0 t Stored ms (adds v state a.0 Stored a.1 a.3) (all_adds v a.0 t ms a.2 a.5)
 all_adds v state t (Ok (Range x y z n) ∷ ms) w a =
     then_adds v state a.0 t (Range x y z n) ms (adds v state a.0 (Range x y z n) a.1 a.3) (all_adds v a.0 t ms a.2 a.5)
+all_adds v state t (Ok (Groups x s n r) ∷ ms) w a = then_adds v state a.0 t (Groups x s n r) ms
+    (adds v state a.0 (Groups x s n r) a.1 a.3) (all_adds v a.0 t ms a.2 a.5)
 all_adds v state t (Ok (Top x n) ∷ ms) w a =
     then_adds v state a.0 t (Top x n) ms (adds v state a.0 (Top x n) a.1 a.3) (all_adds v a.0 t ms a.2 a.5)
 all_adds v state t (Ok Stats ∷ ms) w a =
@@ -552,6 +562,7 @@ first_answered v state t Save ms w n a = a
 first_answered v state t Stored ms w n a = a
 first_answered v state t (Range x y z i) ms w n a = a
 first_answered v state t (Top x i) ms w n a = a
+first_answered v state t (Groups x s i r) ms w n a = a
 first_answered v state t Stats ms w n a = a
 first_answered v state t Fold ms w n a = a
 first_answered v state t Stop ms w n a = absurd (n refl)
@@ -598,6 +609,7 @@ alone_stored v state t c n Stop w k p a e = absurd p
 alone_stored v state t c n Stored w k p a e = absurd p
 alone_stored v state t c n (Range x y z i) w k p a e = absurd p
 alone_stored v state t c n (Top x i) w k p a e = absurd p
+alone_stored v state t c n (Groups x s i r) w k p a e = absurd p
 alone_stored v state t c n Stats w k p a e = absurd p
 alone_stored v state t c n Fold w k p a e = absurd p
 

@@ -3,7 +3,7 @@ use Rattle.std.proofs.Common.{◌≡◌, ℕ, List, [], ◌∷◌, ◌++◌, map
 use Rattle.wire_frames.specs.Frames.{Gives, Message, frames, messages, up_to_stop}
 use Rattle.wire_frames.specs.declared.request.Request.{Request}
 use Rattle.wire_frames.specs.declared.request.Request.TheVariants.{Put, Cell, Row, Status, Export, Save, Stop}
-use Rattle.wire_frames.specs.declared.request.Request.TheVariants.{PutCells, Stored, Range, Top, Stats, Fold}
+use Rattle.wire_frames.specs.declared.request.Request.TheVariants.{PutCells, Stored, Range, Top, Stats, Fold, Groups}
 use Rattle.wire_frames.proofs.StreamLemmas.{gives_frames, up_more}
 use Rattle.wire_proto.specs.Keeping.{Event}
 use Rattle.wire_proto.specs.Answering.{Answers, asked, unasked, of_sum}
@@ -27,6 +27,7 @@ goes_on gives setup (PutCells x y z) reply s t h is = cc
 goes_on gives setup Stored reply s t h is = cc
 goes_on gives setup (Range x y z n) reply s t h is = cc
 goes_on gives setup (Top x n) reply s t h is = cc
+goes_on gives setup (Groups x k n r) reply s t h is = cc
 goes_on gives setup Stats reply s t h is = cc
 goes_on gives setup Fold reply s t h is = cc
 

@@ -4,8 +4,8 @@
 --     RefusesText     the text is refused, with this code and detail, before the keeper is asked
 --     PutsCells       the cells of a PutCells make a matrix of the setup's dimensions, and this is their batch
 --     RefusesCells    the cells are refused, with this code and detail, before the keeper is asked
---     Asks            the calls of a keeper that a request leads to. A Range and a Top ask for the sum; what they are
---                     answered of it, once it is there, Tells says (specs/Questions.antt)
+--     Asks            the calls of a keeper that a request leads to. A Range, a Top and a Groups ask for the sum; what
+--                     they are answered of it, once it is there, Tells says (specs/Questions.antt)
 --     Refuses         the replies that a request gets without a call
 --     Answers         a request gets this reply, and leads the keeper from one state to another
 --     RunsOut         memory ran out for this request, before the call that it leads to or in it
@@ -28,10 +28,10 @@ use Rattle.wire_proto.specs.CellBytes.{cells_of}
 use Rattle.wire_proto.specs.Keeping.{Event, put, cell, row, status, export, save, stored, stats, fold}
 use Rattle.wire_proto.specs.Telling.{Telling}
 use Rattle.wire_proto.specs.Replies.{reply_of, refused}
-use Rattle.wire_proto.specs.Questions.{AreBounds, IsCount, Tells}
+use Rattle.wire_proto.specs.Questions.{AreBounds, IsCount, AreRows, AreGroups, Tells}
 use Rattle.wire_frames.specs.declared.request.Request.{Request}
 use Rattle.wire_frames.specs.declared.request.Request.TheVariants.{Put, Cell as CellAt, Row, Status, Export, Save, Stop}
-use Rattle.wire_frames.specs.declared.request.Request.TheVariants.{PutCells, Stored, Range, Top, Stats, Fold}
+use Rattle.wire_frames.specs.declared.request.Request.TheVariants.{PutCells, Stored, Range, Top, Stats, Fold, Groups}
 use Rattle.wire_proto.specs.declared.keeper.PutRefusal.{PutRefusal}
 use Rattle.wire_proto.specs.declared.keeper.SaveRefusal.{SaveRefusal}
 use Rattle.wire_proto.specs.declared.keeper.FoldRefusal.{FoldRefusal}
@@ -109,6 +109,8 @@ Asks setup (Range rows cols start most) e =
     AreBounds setup rows cols × IsCount most × (lack : AllocError) × (e ≡ export (Err lack))
 Asks setup (Top by most) e = (by ≤ 1) × IsCount most × (lack : AllocError) × (e ≡ export (Err lack))
 Asks setup Stats e = (answer : Result Telling AllocError) × (e ≡ stats answer)
+Asks setup (Groups by shift most rows) e =
+    AreRows setup rows × AreGroups by shift most × (lack : AllocError) × (e ≡ export (Err lack))
 Asks setup Fold e = (answer : Result ℕ FoldRefusal) × (e ≡ fold answer)
 
 abbrev pub Refuses : Setting → Request → List ℕ → Type 0
@@ -129,6 +131,9 @@ Refuses setup (Range rows cols start most) reply =
 Refuses setup (Top by most) reply = ((by ≤ 1) × IsCount most → ⊥) × (reply ≡ refused 44 0)
 Refuses setup Stats reply = ⊥
 Refuses setup Fold reply = ⊥
+Refuses setup (Groups by shift most rows) reply =
+    ((AreRows setup rows → ⊥) × (reply ≡ refused 41 0))
+    ⊎ (AreRows setup rows × (AreGroups by shift most → ⊥) × (reply ≡ refused 44 0))
 
 -- `gives s e t`: the keeper may answer this call in state s, and then stands in state t.
 pub data Answers {S : Type 0} (gives : S → Event → S → Type 0) (setup : Setting) (r : Request) (reply : List ℕ)

@@ -1,28 +1,33 @@
--- What a Range and a Top ask of the sum, and how they are answered.
+-- What a Range, a Top and a Groups ask of the sum, and how they are answered.
 --     AreBounds           the first and the last row and column, within the dimensions
 --     IsCount             so many cells, or rows, may be asked for
+--     AreRows             the first and the last row, within the dimensions
+--     AreGroups           what rows are compared by, the bits that they are shifted by, and their number
 --     range_between       the cells that a Range asks for
 --     by_number           what a Top asks to compare rows by
+--     groups_of           the groups that a Groups asks for
 --     cells_reply         a page of cells, and whether there are more
 --     rows_reply          rows with their entries and totals
 --     range_reply         the reply to a Range, of the sum
---     Tells               a request is answered so of a sum: only a Range and a Top are
+--     Tells               a request is answered so of a sum: only a Range, a Top and a Groups are
 use Rattle.std.specs.Prelude.{◌≡◌, ℕ, ◌<◌, ◌≤◌, ◌==◌, Bool, List, ◌∷◌, ◌++◌, length, flat_map, nat_lt, if◌then◌else◌}
 use Rattle.std.specs.FinMap.{entries}
 use Rattle.hyper_rows.specs.Counts.{Place}
 use Rattle.hyper_matrix.specs.Matrix.{Matrix}
 use Rattle.batch_store.specs.Setups.{Setting}
+use Rattle.cell_queries.specs.Groups.{grouped}
 use Rattle.cell_queries.specs.Ranges.{cells_in, page_of}
 use Rattle.cell_queries.specs.Tallies.{tallies}
 use Rattle.cell_queries.specs.Tops.{IsTop}
 use Rattle.cell_queries.specs.declared.range.Span.{Span}
 use Rattle.cell_queries.specs.declared.range.CellRange.{CellRange}
+use Rattle.cell_queries.specs.declared.groups.RowGroups.{RowGroups}
 use Rattle.cell_queries.specs.declared.tally.RowTally.{RowTally}
 use Rattle.cell_queries.specs.declared.top.TopBy.{TopBy}
 use Rattle.cell_queries.specs.declared.top.TopBy.TheVariants.{Total, Entries}
 use Rattle.wire_frames.specs.Frames.{frame, number}
 use Rattle.wire_frames.specs.declared.request.Request.{Request}
-use Rattle.wire_frames.specs.declared.request.Request.TheVariants.{Range, Top}
+use Rattle.wire_frames.specs.declared.request.Request.TheVariants.{Range, Top, Groups}
 
 pub record AreBounds (setup : Setting) (rows cols : ℕ × ℕ) : Type 0 where
   pub rows_rise : rows.0 ≤ rows.1
@@ -33,11 +38,20 @@ pub record AreBounds (setup : Setting) (rows cols : ℕ × ℕ) : Type 0 where
 abbrev pub IsCount : ℕ → Type 0
 IsCount most = (1 ≤ most) × (most ≤ 1000000)
 
+abbrev pub AreRows : Setting → ℕ × ℕ → Type 0
+AreRows setup rows = (rows.0 ≤ rows.1) × (rows.1 < setup.rows)
+
+abbrev pub AreGroups : ℕ → ℕ → ℕ → Type 0
+AreGroups by shift most = (by ≤ 1) × (shift < 64) × IsCount most
+
 abbrev pub span : ℕ × ℕ → Span
 span p = record { first = p.0; last = p.1 }
 
 abbrev pub range_between : ℕ × ℕ → ℕ × ℕ → ℕ × ℕ → CellRange
 range_between rows cols start = record { rows = span rows; cols = span cols; start = start }
+
+abbrev pub groups_of : ℕ × ℕ → ℕ → RowGroups
+groups_of rows shift = record { rows = span rows; shift = shift }
 
 abbrev pub by_number : ℕ → TopBy
 by_number n = if n == 0 then Total else Entries
@@ -67,8 +81,15 @@ abbrev pub TellsTop : TopBy → ℕ → Matrix → List ℕ → Type 0
 TellsTop by most m reply =
     (top : List RowTally) × IsTop by most (tallies (entries m.counts)) top × (reply ≡ rows_reply top)
 
+-- the first `most` groups
+abbrev pub TellsGroups : TopBy → RowGroups → ℕ → Matrix → List ℕ → Type 0
+TellsGroups by g most m reply =
+    (top : List RowTally) × IsTop by most (tallies (grouped g (entries m.counts))) top × (reply ≡ rows_reply top)
+
 abbrev pub Tells : Setting → Request → Matrix → List ℕ → Type 0
 Tells setup (Range rows cols start most) m reply =
     AreBounds setup rows cols × IsCount most × (reply ≡ range_reply (range_between rows cols start) most m)
 Tells setup (Top by most) m reply = (by ≤ 1) × IsCount most × TellsTop (by_number by) most m reply
+Tells setup (Groups by shift most rows) m reply = AreRows setup rows × AreGroups by shift most ×
+    TellsGroups (by_number by) (groups_of rows shift) most m reply
 Tells setup r m reply = ⊥

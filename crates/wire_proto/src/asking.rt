@@ -8,7 +8,7 @@ ghost use Rattle.wire_proto.specs.Settling.{Begins, BeginsOut, begun_as};
 use crate::cell_bodies::batch_of_cells;
 use crate::held::Begun;
 use crate::keeper::{FoldRefusal, Keeper, PutRefusal, SaveRefusal};
-use crate::questions::{Answer, ask_range, ask_top};
+use crate::questions::{Answer, ask_groups, ask_range, ask_top};
 use crate::replies::{Short, counts, refused, row_sum, saved, value};
 use crate::telling::ask_stats;
 use crate::texts::{BodyRefusal, batch_of};
@@ -225,6 +225,12 @@ pub fn ask<K: Keeper>(alloc: Global, keeper: &mut K, request: Request) -> Result
             most,
         } => ask_range(alloc, keeper, rows, cols, start, most),
         Request::Top { by, most } => ask_top(alloc, keeper, by, most),
+        Request::Groups {
+            by,
+            shift,
+            most,
+            rows,
+        } => ask_groups(alloc, keeper, by, shift, most, rows),
         Request::Stats => ask_stats(alloc, keeper),
         Request::Fold => ask_fold(alloc, keeper),
         Request::Put { .. } | Request::PutCells { .. } | Request::Export | Request::Stop => {

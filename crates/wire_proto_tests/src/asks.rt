@@ -36,6 +36,7 @@ pub enum Ask {
     Range([(u64, u64); 3], u64),
     /// By what, and how many rows.
     Top(u8, u64),
+    Groups(u8, u8, u64, (u64, u64)),
     Stats,
     Fold,
     /// These bytes, in hexadecimal digits.
@@ -112,6 +113,12 @@ fn short_request(ask: Ask) -> Option<Request>
             most,
         }),
         Ask::Top(by, most) => Some(Request::Top { by, most }),
+        Ask::Groups(by, shift, most, rows) => Some(Request::Groups {
+            by,
+            shift,
+            most,
+            rows,
+        }),
         Ask::Stats => Some(Request::Stats),
         Ask::Fold => Some(Request::Fold),
         Ask::Put(..) | Ask::Text(..) | Ask::Cells(..) | Ask::Raw(_) => None,

@@ -36,6 +36,8 @@ static HEADERS: &[(&str, Result<Option<u8>, FrameFault>)] = &[
     ("00000008 0b", Err(FrameFault::BadLength)),
     ("00000000 0c", Ok(Some(12))),
     ("00000000 0d", Ok(Some(13))),
+    ("0000001a 12", Ok(None)),
+    ("00000019 12", Err(FrameFault::BadLength)),
     ("00000000 00", Err(FrameFault::UnknownKind)),
     ("00000000 0e", Err(FrameFault::UnknownKind)),
     ("00000010 81", Err(FrameFault::UnknownKind)),
@@ -56,6 +58,7 @@ fn kind(request: &Request) -> u8 {
         Request::Top { .. } => 11,
         Request::Stats => 12,
         Request::Fold => 13,
+        Request::Groups { .. } => 18,
     }
 }
 
@@ -132,6 +135,10 @@ static SPELLED: &[(Ask, &str)] = &[
          0000000000000005 0000000000000006 0000000000000007",
     ),
     (Ask::Top(1, 258), "00000009 0b 01 0000000000000102"),
+    (
+        Ask::Groups(1, 8, 258, (3, 65_535)),
+        "0000001a 12 01 08 0000000000000102 0000000000000003 000000000000ffff",
+    ),
     (Ask::Stats, "00000000 0c"),
     (Ask::Fold, "00000000 0d"),
 ];

@@ -80,6 +80,50 @@ static RANGES: &[Session] = &[
     ),
 ];
 
+static GROUPS: &[Session] = &[
+    // Rows 0 and 1 are a group, row 2 another one; of the rows 1 and 2 the first group; groups of one row each.
+    (
+        &[
+            CELLS,
+            Ask::Groups(0, 1, 10, (0, 2)),
+            Ask::Groups(0, 1, 1, (1, 2)),
+            Ask::Groups(1, 0, 9, (0, 2)),
+            Ask::Groups(0, 63, 2, (2, 2)),
+        ],
+        "00000010 81 0000000000000000 0000000000000010
+         00000030 89 0000000000000000 0000000000000003 0000000000000010
+         0000000000000001 0000000000000001 0000000000000000
+         00000018 89 0000000000000000 0000000000000001 0000000000000008
+         00000048 89 0000000000000000 0000000000000002 0000000000000008
+         0000000000000001 0000000000000001 0000000000000008
+         0000000000000002 0000000000000001 0000000000000000
+         00000018 89 0000000000000000 0000000000000001 0000000000000000",
+        CLOSED,
+        (1, 16),
+    ),
+    // Rows that aren't, also with another fault; and then each other fault; the session goes on.
+    (
+        &[
+            Ask::Groups(0, 0, 1, (0, 3)),
+            Ask::Groups(2, 0, 1, (2, 1)),
+            Ask::Groups(2, 0, 1, (0, 2)),
+            Ask::Groups(0, 64, 1, (0, 2)),
+            Ask::Groups(0, 0, 0, (0, 2)),
+            Ask::Groups(1, 1, 1_000_001, (0, 2)),
+            Ask::Groups(1, 1, 1_000_000, (0, 2)),
+        ],
+        "0000000a ff 0029 0000000000000000
+         0000000a ff 0029 0000000000000000
+         0000000a ff 002c 0000000000000000
+         0000000a ff 002c 0000000000000000
+         0000000a ff 002c 0000000000000000
+         0000000a ff 002c 0000000000000000
+         00000000 89",
+        CLOSED,
+        (0, 0),
+    ),
+];
+
 const ONE: Ask = Ask::Cells(7, 1, &[(0, 0, 5)]);
 
 static FOLDS: &[Session] = &[
@@ -143,6 +187,16 @@ fn questions_are_answered(rt: HostRuntime) {
         rt.alloc(),
         small_setup().expect(&rt, "a setup"),
         RANGES,
+    );
+}
+
+#[test]
+fn groups_are_answered(rt: HostRuntime) {
+    check_sessions(
+        &rt,
+        rt.alloc(),
+        small_setup().expect(&rt, "a setup"),
+        GROUPS,
     );
 }
 

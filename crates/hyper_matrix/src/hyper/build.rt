@@ -1,21 +1,16 @@
 //! `C(i,j) = sum of the counts at (i,j)`: `GrB_Matrix_build` with plus as `dup`.
 //!
-//! The list is put in strict order, with the counts of equal places added up, and split into blocks.
-ghost use Rattle.std.specs.Prelude.{◌≡◌, ℕ, ◌<◌, ◌^◌, ◌↔◌, Option, T, IfOk, IsOk, length, map};
-ghost use Rattle.std.specs.List.{AllByRecursion};
-ghost use Rattle.std.specs.FinMap.{is_sorted};
+//! The list is put in strict order, with the counts of equal places added up.
+ghost use Rattle.std.specs.Prelude.{◌≡◌, ℕ, ◌<◌, ◌^◌, ◌↔◌, Option, IfOk, IsOk, length};
 ghost use Rattle.cells.specs.Bounds.{IsDimension, AreWithin};
 ghost use Rattle.cells.specs.Order.{Rise};
-ghost use Rattle.hyper_rows.specs.Counts.{place_cmp};
-ghost use Rattle.hyper_rows.specs.Cells.{built_of, cell_total, entry_of};
+ghost use Rattle.hyper_rows.specs.Cells.{built_of, cell_total};
 ghost use Rattle.hyper_matrix.specs.Matrix.{matrix};
-ghost use Rattle.hyper_matrix.specs.Shared.{LiesWithin};
 ghost use Rattle.hyper_matrix.specs.Refusals.{first_fault};
 
-use super::assemble;
 use crate::hyper::Hyper;
 use crate::judge::{BuildFault, judge_cells};
-use crate::split::push_blocks;
+use crate::piece::Piece;
 use cells::{Cell, into_summed, rises, total_of};
 use std::alloc::{AllocError, Global};
 
@@ -81,22 +76,52 @@ impl Hyper {
             },
         }
     }
+
+    /// The matrix of a list of cells in which each place stands once, by row and then by column. It takes the list over.
+    ///
+    /// Where more than a quarter of the list's room is free it is given back.
+    ///
+    /// # Errors
+    ///
+    /// Memory was refused, which doesn't happen for an empty list. The list is gone then.
+    pub fn from_sorted(
+        alloc: Global,
+        rows: u64,
+        cols: u64,
+        cells: Vec<Cell>,
+    ) -> Result<Hyper, AllocError>
+        requires rows { IsDimension rows }
+        requires cols { IsDimension cols }
+        requires rises { Rise cells.items }
+        requires within { AreWithin rows cols cells.items }
+        requires fits { cell_total cells.items < 2 ^ 64 }
+        ensures value { IfOk result (λ m. m ≡ matrix rows cols (built_of cells.items)) }
+        ensures none { length cells.items ≡ 0 → IsOk result }
+    {
+        if cells.len() == 0 {
+            return Ok(Hyper::new(alloc, rows, cols));
+        }
+        let cells = without_room(cells);
+        let sum = total_of(&cells);
+        let piece = Piece::new(alloc, cells)?;
+        Ok(Hyper {
+            rows,
+            cols,
+            sum,
+            piece,
+        })
+    }
 }
 
-/// The matrix of a list of cells in strict order. An empty list takes no memory.
-pub fn of_sorted(alloc: Global, rows: u64, cols: u64, cells: &[Cell]) -> Result<Hyper, AllocError>
-    requires rows { IsDimension rows }
-    requires cols { IsDimension cols }
-    requires sorted { T (is_sorted place_cmp (map entry_of cells.now)) }
-    requires within { AllByRecursion (LiesWithin rows cols) (map entry_of cells.now) }
-    requires fits { cell_total cells.now < 2 ^ 64 }
-    ensures { IfOk result (λ m. m ≡ matrix rows cols (built_of cells.now)) }
+// A list without its free room, where that is more than a quarter of the room.
+fn without_room(cells: Vec<Cell>) -> Vec<Cell>
+    ensures { result.items ≡ cells.items }
 {
-    let mut blocks = Vec::new(alloc);
-    push_blocks(alloc, &mut blocks, cells)?;
-    let sum = total_of(cells);
-    let m = assemble(alloc, rows, cols, sum, blocks)?;
-    Ok(m)
+    let mut list = cells;
+    if list.len() < list.capacity() / 4 * 3 {
+        list.shrink_to_fit();
+    }
+    list
 }
 
 /// The matrix of a list of cells in which each place stands once, by row and then by column.
@@ -108,7 +133,8 @@ pub fn of_list(alloc: Global, rows: u64, cols: u64, cells: &[Cell]) -> Result<Hy
     requires fits { cell_total cells.now < 2 ^ 64 }
     ensures { IfOk result (λ m. m ≡ matrix rows cols (built_of cells.now)) }
 {
-    let m = of_sorted(alloc, rows, cols, cells)?;
+    let list = Vec::from_slice(alloc, cells)?;
+    let m = Hyper::from_sorted(alloc, rows, cols, list)?;
     Ok(m)
 }
 
@@ -124,7 +150,7 @@ fn build_given(alloc: Global, rows: u64, cols: u64, cells: Vec<Cell>) -> Result<
         return Ok(Hyper::new(alloc, rows, cols));
     }
     let list = into_summed(cells);
-    let m = of_list(alloc, rows, cols, &list)?;
+    let m = Hyper::from_sorted(alloc, rows, cols, list)?;
     Ok(m)
 }
 

@@ -1,8 +1,8 @@
 //! `s = A(i,j)`: `GrB_Matrix_extractElement`, and `GrB_Matrix_extractTuples`: a place, a cell by its number, the first
 //! of a row from a column on, and all cells.
 //!
-//! A look-up is a bisection in the blocks, then in one of them, so it takes time in the logarithm of the entries and no
-//! memory.
+//! A look-up is a bisection, so it takes time in the logarithm of the entries and no memory. A cell by its number takes
+//! constant time.
 ghost use Rattle.std.specs.Prelude.{◌≡◌, ◌<◌, ◌≤◌, ◌⊎◌, ◌++◌, MatchOption, IfOk, OnOk, IfSome, map, slice_get};
 ghost use Rattle.std.specs.Option.{option_map};
 ghost use Rattle.std.specs.FinMap.{get, entries};
@@ -10,10 +10,9 @@ ghost use Rattle.cells.specs.Bounds.{AreWithin};
 ghost use Rattle.hyper_rows.specs.Cells.{entry_of};
 ghost use Rattle.hyper_matrix.specs.RowOf.{IsFirst, HasNoneFrom};
 
-use crate::block_search;
-use crate::blocks::push_all_cells;
 use crate::hyper::Hyper;
 use crate::row_sum::Entry;
+use crate::search;
 use cells::Cell;
 use std::alloc::{AllocError, Global};
 
@@ -24,7 +23,7 @@ impl Hyper {
         ensures value { result ≡ get self.now.counts (row, col) }
         ensures outside { (self.now.rows ≤ row) ⊎ (self.now.cols ≤ col) → result ≡ None }
     {
-        block_search::get(&self.blocks, row, col)
+        search::get(self.piece.cells(), row, col)
     }
 
     /// The i-th cell from 0, by row and then by column, and None from the number of entries on.
@@ -32,7 +31,13 @@ impl Hyper {
         ensures value { option_map entry_of result ≡ slice_get (entries self.now.counts) i }
         ensures within { IfSome result (λ cell. (cell.row < self.now.rows) × (cell.col < self.now.cols)) }
     {
-        block_search::cell_at(&self.blocks, &self.ends, i)
+        let cells = self.piece.cells();
+        let at = i as usize;
+        if at < cells.len() {
+            Some(cells[at])
+        } else {
+            None
+        }
     }
 
     /// The first entry of a row at the column `from` or behind it, and None where there is none. So the entries of a
@@ -41,7 +46,7 @@ impl Hyper {
         ensures value { MatchOption result (HasNoneFrom self.now.counts row from) (IsFirst self.now.counts row from) }
         ensures within { IfSome result (λ entry. (row < self.now.rows) × (entry.col < self.now.cols)) }
     {
-        block_search::first_in_row(&self.blocks, row, from)
+        search::first_in_row(self.piece.cells(), row, from)
     }
 
     /// Appends the cells by row and then by column. Each lies within the dimensions.
@@ -58,7 +63,9 @@ impl Hyper {
         ensures within { AreWithin self.now.rows self.now.cols out.old.items →
             OnOk result (AreWithin self.now.rows self.now.cols out.new.items) }
     {
-        push_all_cells(out, &self.blocks)?;
+        let cells = self.piece.cells();
+        out.reserve_exact(cells.len())?;
+        out.extend_from_slice(cells)?;
         Ok(())
     }
 
@@ -72,8 +79,7 @@ impl Hyper {
         ensures order { IfOk result (λ cells. map entry_of cells.items ≡ entries self.now.counts) }
         ensures within { IfOk result (λ cells. AreWithin self.now.rows self.now.cols cells.items) }
     {
-        let mut cells = Vec::with_capacity(alloc, self.entries() as usize)?;
-        self.push_cells(&mut cells)?;
+        let cells = Vec::from_slice(alloc, self.piece.cells())?;
         Ok(cells)
     }
 }

@@ -1,128 +1,158 @@
-//! The parts of a matrix in all shards, `part` for each of them, by one pass over the blocks.
+//! The parts of a matrix in all shards, `part` for each of them, as pieces of one list.
 //!
-//! The pass goes over a run of blocks at a time: it lists the cells of each shard, and adds each list to the part of
-//! its shard, behind what that has. So the lists stay in reach of the processor, and their memory is used again.
-ghost use Rattle.std.specs.Prelude.{◌≡◌, ℕ, [], ◌<◌, ◌^◌, T, OnOk, IfOk, length, replicate};
-ghost use Rattle.std.specs.List.{AllByRecursion};
-ghost use Rattle.std.specs.FinMap.{empty, is_sorted};
-ghost use Rattle.cells.specs.Bounds.{IsDimension};
-ghost use Rattle.hyper_rows.specs.Counts.{place_cmp, built, count_sum};
-ghost use Rattle.hyper_rows.specs.Parts.{listed, with_parts};
-ghost use Rattle.hyper_matrix.specs.Blocks.{all_cells};
+//! The cells of each shard are counted, which says where each shard begins in the list. Then each cell is written to
+//! the next place of its shard: two passes over the cells, with any number of shards.
+ghost use Rattle.std.specs.Prelude.{◌≡◌, ℕ, ◌+◌, ◌<◌, ◌≤◌, ◌^◌, IfOk, length, slice_index, slice_range};
+ghost use Rattle.cells.specs.Bounds.{AreWithin};
+ghost use Rattle.cells.specs.Order.{Rise};
+ghost use Rattle.hyper_rows.specs.Cells.{built_of, cell_total};
 ghost use Rattle.hyper_matrix.specs.Matrix.{matrix};
-ghost use Rattle.hyper_matrix.specs.Parts.{parts_below, AreAddable, with_lists};
-ghost use Rattle.hyper_matrix.specs.Shared.{LiesWithin};
+ghost use Rattle.hyper_matrix.specs.Parts.{parts_below, shard_cells, count_below, InLine};
 
-use super::part::list_room;
-use crate::block::Block;
-use crate::blocks::count_cells;
+use super::build::of_list;
 use crate::hyper::Hyper;
-use crate::limits::RUN_BLOCKS;
-use cells::Cell;
+use crate::limits::SMALL_SHARE;
+use crate::piece::Piece;
+use cells::{Cell, total_of};
+use hyper_rows::shard_of;
 use std::alloc::{AllocError, Global};
-use std::mem;
 
-// Appends the cells of all blocks to the lists of their shards, by row and then by column.
-fn push_parts(lists: &mut [Vec<Cell>], blocks: &[Block]) -> Result<(), AllocError>
-    requires { 0 < length lists.old }
-    ensures { OnOk result (listed lists.new ≡
-        with_parts 0 (length lists.old) (listed lists.old) (all_cells blocks.now)) }
+// Counts the cells of each shard, of as many shards as there are counts.
+fn count_cells(counts: &mut [usize], cells: &[Cell])
+    requires some { 0 < length counts.old }
+    requires zero { (s : ℕ) → slice_index counts.old s ≡ 0 }
+    ensures { (s : ℕ) → s < length counts.old →
+        slice_index counts.new s ≡ length (shard_cells s (length counts.old) cells.now) }
 {
-    for block in blocks {
-        block.rows().push_parts(lists)?;
+    let k = counts.len() as u64;
+    for cell in cells {
+        let s = shard_of(cell.row, k) as usize;
+        counts[s] += 1;
     }
-    Ok(())
 }
 
-// An empty list for each of k shards, with room for so many cells.
-fn empty_lists(alloc: Global, k: u64, room: usize) -> Result<Vec<Vec<Cell>>, AllocError>
-    ensures count { IfOk result (λ lists. length lists.items ≡ k) }
-    ensures empty { IfOk result (λ lists. listed lists.items ≡ replicate k []) }
+// Where each shard begins, if the cells of all shards stand in line, a shard after the other.
+fn find_begins(begins: &mut [usize], cells: &[Cell])
+    requires some { 0 < length begins.old }
+    requires zero { (s : ℕ) → slice_index begins.old s ≡ 0 }
+    ensures { (s : ℕ) → s < length begins.old →
+        slice_index begins.new s ≡ count_below s (length begins.old) cells.now }
 {
-    let mut lists = Vec::with_capacity(alloc, k as usize)?;
-    'lists: for _s in 0..k {
-        lists.push(Vec::with_capacity(alloc, room)?)?;
+    count_cells(begins, cells);
+    let mut end = 0usize;
+    for i in 0..begins.len() {
+        let count = begins[i];
+        begins[i] = end;
+        end += count;
     }
-    Ok(lists)
 }
 
-// The cells of all blocks in a list for each of k shards.
-fn shard_lists(alloc: Global, blocks: &[Block], k: u64) -> Result<Vec<Vec<Cell>>, AllocError>
-    requires { 0 < k }
-    ensures count { IfOk result (λ lists. length lists.items ≡ k) }
-    ensures parts { IfOk result (λ lists. listed lists.items ≡
-        with_parts 0 k (replicate k []) (all_cells blocks.now)) }
+// Puts the cells of all shards in line, where `next` has the place of each shard's first cell. Then it has where each
+// shard ends.
+fn put_in_line(line: &mut [Cell], next: &mut [usize], cells: &[Cell])
+    requires some { 0 < length next.old }
+    requires room { length line.old ≡ length cells.now }
+    requires begins { (s : ℕ) → s < length next.old →
+        slice_index next.old s ≡ count_below s (length next.old) cells.now }
+    ensures ends { (s : ℕ) → s < length next.old →
+        slice_index next.new s ≡ count_below (s + 1) (length next.old) cells.now }
+    ensures line { InLine (length next.old) line.new cells.now }
 {
-    let room = list_room(count_cells(blocks) as u64, k);
-    let mut lists = empty_lists(alloc, k, room)?;
-    push_parts(&mut lists, blocks)?;
-    Ok(lists)
-}
-
-// An empty matrix for each of k shards.
-fn empty_parts(alloc: Global, rows: u64, cols: u64, k: u64) -> Result<Vec<Hyper>, AllocError>
-    requires rows { IsDimension rows }
-    requires cols { IsDimension cols }
-    ensures { IfOk result (λ parts. parts.items ≡ parts_below k k (matrix rows cols empty)) }
-{
-    let mut parts = Vec::with_capacity(alloc, k as usize)?;
-    'shards: for _s in 0..k {
-        parts.push(Hyper::new(alloc, rows, cols))?;
+    let k = next.len() as u64;
+    for cell in cells {
+        let s = shard_of(cell.row, k) as usize;
+        let at = next[s];
+        next[s] = at + 1;
+        line[at] = *cell;
     }
-    Ok(parts)
 }
 
-// Adds each list to its part. It calls itself once for each shard, of at most 64.
-fn add_lists(alloc: Global, parts: &mut [Hyper], lists: &[Vec<Cell>]) -> Result<(), AllocError>
-    requires { AreAddable parts.old lists.now }
-    ensures { OnOk result (parts.new ≡ with_lists parts.old lists.now) }
-{
-    let Some((part, parts)) = parts.split_first_mut() else {
-        return Ok(());
-    };
-    let Some((list, lists)) = lists.split_first() else {
-        return Ok(());
-    };
-    let (rows, cols) = part.dims();
-    let whole = mem::replace(part, Hyper::new(alloc, rows, cols));
-    *part = whole.into_sum_with_cells(alloc, list)?;
-    add_lists(alloc, parts, lists)
-}
-
-// The parts of the matrix of these blocks, a run of them at a time.
-fn parts_of(
+// A part of the matrix: the cells from one number up to another of a list. Where they are fewer than `least` they get a
+// list of their own, and else they are a piece of this one.
+fn part_of(
     alloc: Global,
-    rows: u64,
-    cols: u64,
-    blocks: &[Block],
-    k: u64,
-) -> Result<Vec<Hyper>, AllocError>
-    requires rows { IsDimension rows }
-    requires cols { IsDimension cols }
-    requires sorted { T (is_sorted place_cmp (all_cells blocks.now)) }
-    requires within { AllByRecursion (LiesWithin rows cols) (all_cells blocks.now) }
-    requires fits { count_sum (all_cells blocks.now) < 2 ^ 64 }
-    requires shards { 0 < k }
-    ensures { IfOk result (λ parts. parts.items ≡ parts_below k k (matrix rows cols (built (all_cells blocks.now)))) }
+    whole: &Hyper,
+    line: &Piece,
+    from: usize,
+    to: usize,
+    least: usize,
+) -> Result<Hyper, AllocError>
+    requires range { (from ≤ to) × (to ≤ length line.now) }
+    requires rises { Rise (slice_range line.now from to) }
+    requires within { AreWithin whole.now.rows whole.now.cols (slice_range line.now from to) }
+    requires fits { cell_total (slice_range line.now from to) < 2 ^ 64 }
+    ensures { IfOk result (λ part.
+        part ≡ matrix whole.now.rows whole.now.cols (built_of (slice_range line.now from to))) }
 {
-    let run = RUN_BLOCKS.saturating_mul(k as usize);
-    let mut parts = empty_parts(alloc, rows, cols, k)?;
+    let (rows, cols) = whole.dims();
+    let cells = &line.cells()[from..to];
+    if cells.len() < least {
+        let part = of_list(alloc, rows, cols, cells)?;
+        return Ok(part);
+    }
+    let sum = total_of(cells);
+    let piece = line.range(from, to)?;
+    Ok(Hyper {
+        rows,
+        cols,
+        sum,
+        piece,
+    })
+}
+
+// The parts of the matrix of a list of cells, where a line has them a shard after the other, and where each shard ends.
+fn cut(
+    alloc: Global,
+    whole: &Hyper,
+    cells: &[Cell],
+    line: &Piece,
+    ends: &[usize],
+) -> Result<Vec<Hyper>, AllocError>
+    requires some { 0 < length ends.now }
+    requires rises { Rise cells.now }
+    requires within { AreWithin whole.now.rows whole.now.cols cells.now }
+    requires fits { cell_total cells.now < 2 ^ 64 }
+    requires all { length line.now ≡ length cells.now }
+    requires ends { (s : ℕ) → s < length ends.now →
+        slice_index ends.now s ≡ count_below (s + 1) (length ends.now) cells.now }
+    requires line { InLine (length ends.now) line.now cells.now }
+    ensures { IfOk result (λ parts. parts.items ≡ parts_below (length ends.now) (length ends.now)
+        (matrix whole.now.rows whole.now.cols (built_of cells.now))) }
+{
+    let least = cells.len() / ends.len() / SMALL_SHARE + 1;
+    let mut parts = Vec::with_capacity(alloc, ends.len())?;
     let mut from = 0;
-    'runs: while from < blocks.len() {
-        let to = from.saturating_add(run).min(blocks.len());
-        let lists = shard_lists(alloc, &blocks[from..to], k)?;
-        add_lists(alloc, &mut parts, &lists)?;
-        from = to;
+    for end in ends {
+        let part = part_of(alloc, whole, line, from, *end, least)?;
+        parts.push(part)?;
+        from = *end;
     }
     Ok(parts)
+}
+
+// The parts of the matrix of a list of cells.
+fn parts_of(alloc: Global, whole: &Hyper, cells: &[Cell], k: u64) -> Result<Vec<Hyper>, AllocError>
+    requires shards { 0 < k }
+    requires rises { Rise cells.now }
+    requires within { AreWithin whole.now.rows whole.now.cols cells.now }
+    requires fits { cell_total cells.now < 2 ^ 64 }
+    ensures { IfOk result (λ parts. parts.items ≡
+        parts_below k k (matrix whole.now.rows whole.now.cols (built_of cells.now))) }
+{
+    let mut next = vec![in alloc; 0usize; k as usize]?;
+    find_begins(&mut next, cells);
+    let mut line = Vec::from_slice(alloc, cells)?;
+    put_in_line(&mut line, &mut next, cells);
+    let line = Piece::new(alloc, line)?;
+    cut(alloc, whole, cells, &line, &next)
 }
 
 impl Hyper {
     /// The parts of all shards of `k`, in order: for each what `part` gives.
     ///
-    /// Reads the cells once, and takes the time and memory of building a matrix of the cells of each shard that has
-    /// any. Lists of some 4,000 cells for each shard, 24 bytes each, are held meanwhile. Where there is one shard, its
-    /// part shares all blocks, as `copy`.
+    /// Reads the cells twice, and takes the memory of one list of them, of which the parts are pieces. A part with less
+    /// than an eighth of an even share gets a list of its own. Where there is one shard, its part shares all cells, as
+    /// `copy`.
     ///
     /// # Errors
     ///
@@ -139,7 +169,7 @@ impl Hyper {
         }
         // The whole's total bounds each part's.
         let _bound = self.total();
-        let parts = parts_of(alloc, self.rows, self.cols, &self.blocks, k)?;
+        let parts = parts_of(alloc, self, self.as_cells(), k)?;
         Ok(parts)
     }
 }

@@ -4,8 +4,8 @@ ghost use Rattle.std.specs.FinMap.{len};
 ghost use Rattle.hyper_rows.specs.Counts.{total};
 ghost use Rattle.hyper_matrix.specs.RowOf.{row_of};
 
-use crate::block_search;
 use crate::hyper::Hyper;
+use crate::search;
 use hyper_rows::RowSum;
 
 impl Hyper {
@@ -24,9 +24,8 @@ impl Hyper {
         ensures total { result.total ≡ total (row_of self.now.counts row) }
         ensures outside { self.now.rows ≤ row → (result.entries ≡ 0) × (result.total ≡ 0) }
     {
-        // They bound those of a row.
-        let _entries = self.entries();
+        // It bounds that of a row.
         let _total = self.total();
-        block_search::row_total(&self.blocks, row)
+        search::row_total(self.piece.cells(), row)
     }
 }

@@ -16,8 +16,7 @@ impl Hyper {
             rows,
             cols,
             sum: self.sum,
-            blocks: self.blocks,
-            ends: self.ends,
+            piece: self.piece,
         }
     }
 }

@@ -93,6 +93,9 @@ fn add_row(rt: &impl Abort, alloc: Global, layers: &mut Layers, row: u64, cells:
 /// So many runs of layer 1 are added up at once.
 const MANY_RUNS: u64 = 16;
 
+/// So many runs of layer 2 are.
+const DEEP_RUNS: u64 = 10;
+
 /// Layers with a cut and one row of 40 cells for each of so many, and then so many rows of so many cells.
 fn layers_of(rt: &impl Abort, alloc: Global, cut: u64, long: u64, short: (u64, u64)) -> Layers {
     let mut layers = Layers::new(alloc, SIDE, SIDE, &[cut]).expect(rt, "layers");
@@ -124,15 +127,15 @@ fn sizes(layers: &Layers, short: u64) -> [Option<u64>; 3] {
 type Rest = (u64, u64, (u64, u64), u64, [u64; 2]);
 
 /// In layer 1 sixteen matrices are added up at once, and fewer only where they have more than three quarters of the
-/// cut. In layer 2 those are that have more than three times as many entries after them: five of like size.
+/// cut. In layer 2 ten are, from the first on that has no more entries than all after it.
 const RESTS: [Rest; 11] = [
     (30, 0, (1, 1), 0, [1, 0]),
     (30, 1, (15, 1), 0, [15, 40]),
     (30, 1, (16, 1), 1, [16, 40]),
     (30, 2, (16, 1), 1, [16, 80]),
-    (30, 4, (1, 1), 0, [1, 160]),
-    (30, 5, (1, 1), 1, [1, 200]),
-    (30, 5, (16, 1), 2, [16, 200]),
+    (30, 9, (1, 1), 0, [1, 360]),
+    (30, 10, (1, 1), 1, [1, 400]),
+    (30, 10, (16, 1), 2, [16, 400]),
     (100, 0, (15, 5), 0, [75, 0]),
     (100, 0, (15, 6), 1, [90, 0]),
     (100, 0, (12, 6), 0, [72, 0]),
@@ -170,7 +173,7 @@ fn what_is_given_up_is_begun_again(rt: HostRuntime) {
 /// Both layers have something due: each is begun, and made by itself, the second one first.
 #[test]
 fn each_layer_has_its_turn(rt: HostRuntime) {
-    let mut layers = layers_with(&rt, rt.alloc(), 5, MANY_RUNS);
+    let mut layers = layers_with(&rt, rt.alloc(), DEEP_RUNS, MANY_RUNS);
     let first = begun(&rt, rt.alloc(), &mut layers);
     let second = begun(&rt, rt.alloc(), &mut layers);
     let made_second = made(&rt, rt.alloc(), &mut layers, second);
@@ -178,7 +181,7 @@ fn each_layer_has_its_turn(rt: HostRuntime) {
     let has_more = is_more_due(&rt, rt.alloc(), &mut layers);
     let found = (made_second, made_first, has_more, sizes(&layers, MANY_RUNS));
     drop(layers);
-    let entries = [Some(MANY_RUNS), Some(200), Some(1)];
+    let entries = [Some(MANY_RUNS), Some(DEEP_RUNS * 40), Some(1)];
     assert!(rt; same(&rt, &found, &(true, true, false, entries)));
 }
 
@@ -195,7 +198,7 @@ fn is_due_past_the_last(rt: &impl Abort, alloc: Global, layers: &mut Layers) -> 
 /// The same, where each is begun in layers of its own, and both are taken over at once.
 #[test]
 fn sums_of_two_layers_are_taken_over_at_once(rt: HostRuntime) {
-    let mut layers = layers_with(&rt, rt.alloc(), 5, MANY_RUNS);
+    let mut layers = layers_with(&rt, rt.alloc(), DEEP_RUNS, MANY_RUNS);
     let deeper = begun_in(&rt, rt.alloc(), &mut layers, 1, usize::MAX);
     let first = begun_in(&rt, rt.alloc(), &mut layers, 0, 1);
     let past = is_due_past_the_last(&rt, rt.alloc(), &mut layers);
@@ -212,7 +215,7 @@ fn sums_of_two_layers_are_taken_over_at_once(rt: HostRuntime) {
         sizes(&layers, MANY_RUNS),
     );
     drop(layers);
-    let entries = [Some(MANY_RUNS), Some(200), Some(1)];
+    let entries = [Some(MANY_RUNS), Some(DEEP_RUNS * 40), Some(1)];
     assert!(rt; same(&rt, &found, &(false, true, true, false, false, entries)));
 }
 

@@ -7,7 +7,7 @@ use std::process::Abort;
 
 const SIDE: u64 = 1 << 20;
 
-// So many cells as fill more than two blocks, in rows of 10: at even columns with one count and at odd ones with
+// 600 cells in rows of 10: at even columns with one count and at odd ones with
 // another, if that isn't 0.
 fn grid(rt: &impl Abort, alloc: Global, even: u64, odd: u64) -> Vec<Cell> {
     let mut cells = Vec::new(alloc);

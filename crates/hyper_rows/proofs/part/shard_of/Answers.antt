@@ -1,4 +1,4 @@
-use Rattle.hyper_rows.proofs.PartLaws.{low_bits}
+use Rattle.hyper_rows.proofs.ShardLaws.{low_bits}
 use Rattle.hyper_rows.proofs.part.shard_of.Goals as goal
 
 pub returns-then-k-bits : goal.returns-then-k-bits

@@ -8,14 +8,14 @@ use Rattle.layer_compaction.proofs.RunLemmas.{have_parts, total-parts}
 use Rattle.layer_compaction.proofs.PairLemmas.{before-settled, content-settled, dims-settled}
 use Rattle.layer_compaction.proofs.pairs.with_rest_added.Goals as goal
 
-pub added_to_runs-requires-clause-dims : goal.added_to_runs-requires-clause-dims
-added_to_runs-requires-clause-dims c =
+pub sum_with_runs-requires-clause-dims : goal.sum_with_runs-requires-clause-dims
+sum_with_runs-requires-clause-dims c =
     subst (λ (m : Matrix). HaveDims m.rows m.cols (values c.split_at.result.1.now)) (sym c.new-none.ensures)
     (have_parts c.args.runs.now c.split_at.result.0.now c.split_at.result.1.now c.split_at.ensures.by_index.0
     c.args.rows c.args.cols c.requires.dims).1
 
-pub added_to_runs-requires-clause-fits : goal.added_to_runs-requires-clause-fits
-added_to_runs-requires-clause-fits c = omega (
+pub sum_with_runs-requires-clause-fits : goal.sum_with_runs-requires-clause-fits
+sum_with_runs-requires-clause-fits c = omega (
   arith,
   c.requires.fits,
   ap (λ (m : Matrix). total m.counts) c.new-none.ensures,

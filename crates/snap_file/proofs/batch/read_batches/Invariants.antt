@@ -1,4 +1,4 @@
-use Rattle.std.proofs.Common.{◌≡◌, ℕ, ◌-◌, ◌≤◌}
+use Rattle.std.proofs.Common.{◌≡◌, ◌-◌, ◌≤◌}
 use Rattle.batch_store.specs.Batches.{values, entries_of}
 use Rattle.snap_file.specs.Table.{batches_behind, rest_of, ending}
 use Rattle.snap_file.specs.Outcomes.{Task, HasJudged}

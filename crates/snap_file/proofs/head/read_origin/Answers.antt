@@ -1,4 +1,3 @@
-use Rattle.std.proofs.Common.{ap, subst, sym}
 use Rattle.std.proofs.lemmas.Result.{err_from_is_err_and}
 use Rattle.snap_file.proofs.OriginLemmas.{origin_there, origin_missing}
 use Rattle.snap_file.proofs.head.read_origin.Goals as goal

@@ -1,4 +1,4 @@
-use Rattle.std.proofs.Common.{◌≡◌, ◌-◌, ◌≤◌, ℕ}
+use Rattle.std.proofs.Common.{◌≡◌, ◌-◌, ◌≤◌}
 use Rattle.snap_file.specs.Table.{Reading, Progress, entries_behind}
 use Rattle.snap_file.specs.Outcomes.{Task, HasJudged}
 use Rattle.snap_file.specs.Lists.{HasPairs, progress_in}

@@ -1,4 +1,4 @@
-use Rattle.std.proofs.Common.{◌≡◌, ◌-◌, ◌≤◌, ◌+◌, List, ℕ}
+use Rattle.std.proofs.Common.{◌≡◌, ◌-◌, ◌≤◌, ◌+◌, List}
 use Rattle.cells.specs.Sums.{cell_total}
 use Rattle.cells.specs.declared.cell.Cell.{Cell}
 use Rattle.snap_file.specs.Table.{Reading, Tally, cells_behind}

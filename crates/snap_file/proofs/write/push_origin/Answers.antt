@@ -1,4 +1,3 @@
-use Rattle.std.proofs.Common.{◌++◌, ◌∙◌, sym, ap, append_assoc}
 use Rattle.snap_file.proofs.WriteLemmas.{summed_more}
 use Rattle.snap_file.proofs.write.push_origin.Goals as goal
 

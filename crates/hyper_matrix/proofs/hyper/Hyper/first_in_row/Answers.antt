@@ -1,19 +1,21 @@
-use Rattle.std.proofs.Common.{sym, subst}
+use Rattle.std.proofs.Common.{sym, subst, ap, ◌∙◌}
 use Rattle.std.specs.Prelude.{MatchOption}
+use Rattle.cells.specs.Order.{Rise}
 use Rattle.hyper_rows.specs.Counts.{Counts}
-use Rattle.hyper_matrix.specs.BlockSearch.{HaveRows}
+use Rattle.hyper_rows.specs.Cells.{built_of}
 use Rattle.hyper_matrix.specs.RowOf.{IsFirst, HasNoneFrom}
-use Rattle.hyper_matrix.proofs.QueryLaws.{have_rows, counts_are, entry_within}
+use Rattle.hyper_matrix.proofs.QueryLaws.{counts_are, entry_within}
 use Rattle.hyper_matrix.proofs.hyper.Hyper.first_in_row.Goals as goal
 
-pub first_in_row-requires-clause-full : goal.first_in_row-requires-clause-full
-first_in_row-requires-clause-full c = subst HaveRows (sym c.deref.ensures.value)
-    (have_rows _ c.self.invariant.holds.are_blocks)
+pub first_in_row-requires : goal.first_in_row-requires
+first_in_row-requires c = subst Rise (sym c.cells.ensures) c.self.invariant.rises
+
+pub returns-clause-value : goal.returns-clause-value
+returns-clause-value c = subst (λ (m : Counts). MatchOption c.first_in_row.result
+    (HasNoneFrom m c.args.row c.args.from) (IsFirst m c.args.row c.args.from))
+    (ap built_of c.cells.ensures ∙ counts_are c.self.inside.piece _ _ _ _ c.self.view_is c.self.invariant)
+    c.first_in_row.ensures
 
 pub returns-clause-within : goal.returns-clause-within
-returns-clause-within c =
-    let first = subst (λ (m : Counts). MatchOption c.first_in_row.result (HasNoneFrom m c.args.row c.args.from)
-    (IsFirst m c.args.row c.args.from))
-    (counts_are _ _ _ _ _ c.deref.ensures.value c.self.view_is) c.first_in_row.ensures in
-    entry_within c.self.inside.blocks.items _ _ _ c.self.view_is c.self.invariant.holds.sorted
-    c.self.invariant.holds.within c.first_in_row.result c.args.row c.args.from first
+returns-clause-within c = entry_within c.self.inside.piece _ _ _ _ c.self.view_is c.self.invariant
+    c.first_in_row.result c.args.row c.args.from (returns-clause-value c)

@@ -1,8 +1,0 @@
-use Rattle.hyper_rows.proofs.RowLaws.{empty_parts}
-use Rattle.hyper_rows.proofs.rows.Rows.new.Goals as goal
-
-pub invariant_of-result : goal.invariant_of-result
-invariant_of-result c = (empty_parts _ _ c.new-heads.ensures.items c.new-entries.ensures.items).0
-
-pub returns : goal.returns
-returns c = (empty_parts _ _ c.new-heads.ensures.items c.new-entries.ensures.items).1
