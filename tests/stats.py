@@ -26,10 +26,13 @@ TEXT = b"%%MatrixMarket matrix coordinate integer general\n"
 KINDS = ["put", "cell", "row", "status", "export", "save", "stop", "put_cells", "stored", "range", "top", "stats",
          "fold", "groups"]
 CODES = [1, 20, 21, 22, 23, 30, 31, 32, 33, 34, 35, 40, 41, 42, 43, 44, 50, 51, 52, *range(103, 117)]
+# The seconds that puts are grouped by.
+BOUNDS = ["0.0001", "0.0003", "0.001", "0.003", "0.01", "0.03", "0.1", "0.3", "1", "+Inf"]
 # What is different in each run, and how it is written.
 TIMED = {
     "uptime_seconds": r"\d+\.\d{3}", "resident_bytes": r"\d+", "processor_seconds_total": r"\d+\.\d{3}",
     "save_age_seconds": r"\d+\.\d{3}", "log_syncs_total": r"\d+", "log_room_pages": r"\d+",
+    "put_seconds_sum": r"\d+\.\d{3}",
 }
 BOOK = re.compile(r'^book\{id="[0-9a-f]{32}"\}$')
 ASK = frame(12)
@@ -101,7 +104,8 @@ def names_of(shards, count, is_logged, is_saved=False):
         "max_batches", "batches", "folded", "total", "version", "book", "uptime_seconds", "resident_bytes",
         "processor_seconds_total", "accepted_total", "repeats_total", "cells_total",
         *with_labels("refused_total", "code", CODES), *with_labels("frames_total", "kind", KINDS), "workers",
-        "sessions_total", "sessions_open", "sessions_waiting", "received_bytes_total", "sent_bytes_total", "saves_total",
+        "sessions_total", "sessions_open", "sessions_waiting", "received_bytes_total", "sent_bytes_total",
+        *with_labels("put_seconds_bucket", "le", BOUNDS), "put_seconds_sum", "put_seconds_count", "saves_total",
         "failed_saves_total", *(["saved_batches", "save_age_seconds"] if is_saved else []),
         *(["log_durable_batches", "log_failed", "log_room_pages", "log_group_batches", "log_pages", "log_syncs_total"]
           if is_logged else []),
@@ -172,7 +176,8 @@ def each_number_rises_as_it_should():
         ]
         before = told(link)
         for size in (1 << 20, 1, 4, 7):
-            counted = {name: int(before[name]) for name in before if name not in TIMED and name != "version"}
+            counted = {name: int(before[name]) for name in before if name not in TIMED and name != "version"
+                       and not name.startswith("put_seconds_bucket")}
             for name, request, kind, rises in steps:
                 if size < 1 << 20 and 0x81 == kind and "the same" not in name:
                     # (what was accepted is a repeat from then on)
@@ -183,6 +188,7 @@ def each_number_rises_as_it_should():
                 check(f"{name} in pieces of {size}: kind", got, kind)
                 counted["received_bytes_total"] += len(request)
                 counted["sent_bytes_total"] += 5 + len(body)
+                counted["put_seconds_count"] += 1 if kind == 0x81 else 0
                 for it, count in rises.items():
                     counted[it] += count
             counted['frames_total{kind="stats"}'] += 1
@@ -278,6 +284,33 @@ def saves_are_told():
             check("a new batch", reply(link)[0], 0x81)
             found = told(link)
             check(f"from a snapshot {words}: then", [found[name] for name in names], ["3", folded, "16", "1", "1", "1", "0"])
+
+
+def groups_of(found):
+    """How many puts took at most so long, for each bound; they rise."""
+    counts = [int(found[name]) for name in with_labels("put_seconds_bucket", "le", BOUNDS)]
+    check("groups rise", counts, sorted(counts))
+    return counts
+
+
+def times_of_puts_are_told():
+    """Each accepted put is in one group, a repeat too; what is refused, or no put, is in none."""
+    count = "put_seconds_count"
+    with Server([*SMALL, "--limit", "100"], tcp=False) as at, at.link() as link:
+        check("no put", (groups_of(told(link))[-1], told(link)[count]), (0, "0"))
+        begun = time.monotonic()
+        for nth in (1, 2, 2):
+            link.sendall(put_cells(7, nth, (0, 0, 5)))
+            check("accepted", reply(link)[0], 0x81)
+        texts = [put(7, nth, b"3 3 1\n1 1 1\n") for nth in (3, 4, 5)]
+        link.sendall(b"".join([*texts, put_cells(7, 6, (0, 0, 100)), frame(4)]))
+        check("three together", [reply(link)[0] for _ in range(5)], [0x81, 0x81, 0x81, 0xFF, 0x84])
+        check("six puts", numbers_until(link, [count], ["6"]), ["6"])
+        passed = time.monotonic() - begun
+        found = told(link)
+        check("each in a group", groups_of(found)[-1], 6)
+        # (three came together, and each of these took as long as the last)
+        check("their seconds", 0 <= float(found["put_seconds_sum"]) <= 4 * passed, True)
 
 
 def a_log_is_told():
@@ -408,6 +441,7 @@ def all_is_told():
     bad_frames_are_counted()
     sessions_are_told()
     saves_are_told()
+    times_of_puts_are_told()
     a_log_is_told()
     the_process_is_told()
     the_largest_reply()

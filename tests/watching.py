@@ -81,10 +81,12 @@ class Metrics:
                 seen.add(family)
             elif line.startswith("# TYPE "):
                 kind = "counter" if family.endswith("_total") else "gauge"
+                kind = "histogram" if family == "hhm_put_seconds" else kind
                 check(f"metrics: type of {family}", line, f"# TYPE {family} {kind}")
             else:
                 sample = SAMPLE.fullmatch(line)
-                check(f"metrics: {line}", sample and sample.group(1), family)
+                ends = ("_bucket", "_sum", "_count") if family == "hhm_put_seconds" else ("",)
+                check(f"metrics: {line}", sample and sample.group(1) in [family + it for it in ends], True)
                 found[line.rpartition(" ")[0]] = line.rpartition(" ")[2]
         return found
 

@@ -66,8 +66,11 @@ HELP = {
     "log_durable_batches": "Batches that the log has on its disk.",
     "durable_batches": "Accepted batches that no crash takes back.", "log_pages": "Pages of the log.",
     "log_syncs_total": "Syncs of the log.", "log_group_batches": "Batches of the log's last group.",
+    "put_seconds": "How long accepted puts took, from the end of the request to the answer.",
     "shard_layer_entries": "Entries of a layer of a shard, at most.", "shard_layer_runs": "Runs of a layer of a shard.",
 }
+# The metrics of several samples: how many were at most so large, their sum, and how many there were.
+HISTOGRAMS = ("hhm_put_seconds",)
 NUMBERS = {
     "rows": ("rows",), "cols": ("cols", "columns"), "uptime": UPTIME, "cells": CELLS, "repeats": REPEATS, "open": OPEN,
     "waiting": WAITING, "served": SERVED, "workers": WORKERS, "memory": MEMORY, "saves": SAVES, "failed": FAILED,
@@ -210,7 +213,7 @@ def metrics_of(lookers: List[Looker]) -> str:
             families.setdefault(name, []).extend(labelled(sample, place) for sample in samples)
     lines = []
     for name, samples in families.items():
-        kind = "counter" if name.endswith("_total") else "gauge"
+        kind = "histogram" if name in HISTOGRAMS else "counter" if name.endswith("_total") else "gauge"
         lines += [f"# HELP {name} {help_of(name)}", f"# TYPE {name} {kind}", *samples]
     return "\n".join(lines) + "\n"
 
@@ -238,10 +241,15 @@ def families_of(looker: Looker) -> Dict[str, List[str]]:
             if name == "version":
                 families.update({it: [f'{it}{{version="{value}"}} 1'] for it in ("hhm_info", "hhm_build_info")})
             elif found and isinstance(value, (int, float)):
-                families.setdefault("hhm_" + found.group("name"), []).append(f"hhm_{named(name)} {value}")
+                families.setdefault(family_of("hhm_" + found.group("name")), []).append(f"hhm_{named(name)} {value}")
         if looker.start is not None:
             families["process_start_time_seconds"] = [f"process_start_time_seconds {looker.start:.2f}"]
     return families
+
+
+def family_of(name: str) -> str:
+    """The metric that a sample of this name belongs to."""
+    return next((it for it in HISTOGRAMS if name in [it + end for end in ("_bucket", "_sum", "_count")]), name)
 
 
 def named(name: str) -> str:

@@ -2,6 +2,7 @@
 
 use crate::codes::{CODES, KINDS};
 use crate::frame_scan::Seen;
+use crate::put_times::PutTimes;
 use crate::sessions::SessionCounters;
 use std::alloc::{AllocError, Global};
 use std::sync::atomic::{AtomicU64, Ordering};
@@ -22,6 +23,7 @@ pub struct Counters {
     // How many batches were there at the start.
     started: AtomicU64,
     pub sessions: SessionCounters,
+    pub put_times: PutTimes,
     cells: AtomicU64,
     repeats: AtomicU64,
     // One for each of `KINDS` and of `CODES`, in their order.
@@ -48,7 +50,7 @@ fn millis(time: Duration) -> u64 {
 }
 
 // So many counters.
-fn zeros(alloc: Global, count: usize) -> Result<Vec<AtomicU64>, AllocError> {
+pub(crate) fn zeros(alloc: Global, count: usize) -> Result<Vec<AtomicU64>, AllocError> {
     let mut zeros = Vec::with_capacity(alloc, count)?;
     for _ in 0..count {
         zeros.push(AtomicU64::new(0))?;
@@ -57,7 +59,7 @@ fn zeros(alloc: Global, count: usize) -> Result<Vec<AtomicU64>, AllocError> {
 }
 
 // Adds to the counter at a place, if there is one.
-fn add_at(counters: &[AtomicU64], place: Option<usize>, count: u64) {
+pub(crate) fn add_at(counters: &[AtomicU64], place: Option<usize>, count: u64) {
     let Some(place) = place else {
         return;
     };
@@ -67,7 +69,7 @@ fn add_at(counters: &[AtomicU64], place: Option<usize>, count: u64) {
 }
 
 // The number at a place.
-fn number_at(counters: &[AtomicU64], place: usize) -> u64 {
+pub(crate) fn number_at(counters: &[AtomicU64], place: usize) -> u64 {
     match counters.get(place) {
         Some(counter) => counter.load(Ordering::SeqCst),
         None => 0,
@@ -86,6 +88,7 @@ impl Counters {
             workers,
             started: AtomicU64::new(0),
             sessions: SessionCounters::new(),
+            put_times: PutTimes::new(alloc)?,
             cells: AtomicU64::new(0),
             repeats: AtomicU64::new(0),
             kinds: zeros(alloc, KINDS.len())?,

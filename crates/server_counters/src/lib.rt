@@ -8,10 +8,12 @@ mod codes;
 mod counters;
 mod frame_scan;
 mod machine;
+mod put_times;
 mod sessions;
 
 pub use codes::{CODES, KINDS, KindName, VERSION};
 pub use counters::{Counters, LastSave};
 pub use frame_scan::{FrameScan, Seen, Way};
 pub use machine::Machine;
+pub use put_times::{BOUNDS, Bound, PutTimes};
 pub use sessions::{SessionCounters, SessionCounts};

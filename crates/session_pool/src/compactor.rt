@@ -1,27 +1,13 @@
-//! The threads that compact an engine's shards beside the workers of a pool, and how they are woken.
+//! The threads that compact an engine's shards beside the workers of a pool.
 //!
 //! Puts wake the first, and that one the second.
 
-use batch_store::Kept;
 use crossbeam_channel::{Receiver, Sender, TryRecvError, bounded};
 use locked_engine::{Engine, Named};
 use std::alloc::Global;
 use std::sync::Wait;
 use std::sync::ledger::Ledger;
 use std::thread::{Scope, Threads};
-use wire_proto::PutRefusal;
-
-/// Wakes whoever compacts or folds, if anyone does, after a put that was answered so. It waits for no room: where there
-/// is none, a message is there that hasn't been seen. One that is lost is made up for by the next.
-pub(crate) fn wake_after<R: Wait>(
-    rt: &R,
-    woken: Option<&Sender<()>>,
-    answer: &Result<Kept, PutRefusal>,
-) {
-    if let (Some(woken), Ok(_)) = (woken, answer) {
-        let _ = woken.try_send(rt, ());
-    }
-}
 
 /// The layers of a shard that are compacted before all others, 1 and 2: each put adds to them, and one that finds too
 /// many runs there adds them up itself. A sum in the deeper layers may take as long as many puts.

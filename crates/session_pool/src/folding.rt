@@ -97,6 +97,12 @@ impl Folding {
         self.above > 0
     }
 
+    /// So many cells are put by one worker before it wakes the thread that folds. All workers together put some eighth
+    /// of what a fold waits for before one of them does.
+    pub(crate) fn waking_cells(&self) -> u64 {
+        self.above / 256
+    }
+
     // Whether a fold is due: the batches that it would fold have more cells than there may be, and more than the base
     // has entries, so that a base is added up again only behind as many cells as it has.
     fn is_due(&self, backlog: Backlog) -> bool

@@ -4,7 +4,7 @@ use batch_store::ShardView;
 use locked_engine::{Engine, Named};
 use log_desk::{DeskFigures, Log, LogDesk};
 use log_folder::LogNews;
-use server_counters::{CODES, Counters, KINDS, LastSave, Machine, VERSION};
+use server_counters::{BOUNDS, CODES, Counters, KINDS, LastSave, Machine, PutTimes, VERSION};
 use snap_file::Identity;
 use std::alloc::{AllocError, Global};
 use std::sync::Wait;
@@ -155,6 +155,27 @@ fn push_batches(
     Ok(())
 }
 
+// How many puts took at most so long.
+fn put_bucket(seconds: &'static str, n: u64) -> Figure {
+    labelled("put_seconds_bucket", "le", Amount::Word(seconds), n)
+}
+
+// How long the puts took that were accepted.
+fn push_put_times(out: &mut Vec<Figure>, times: &PutTimes) -> Result<(), AllocError> {
+    let mut sum = 0u64;
+    let mut index = 0usize;
+    for bound in BOUNDS {
+        sum = sum.saturating_add(times.group(index));
+        out.push(put_bucket(bound.seconds, sum))?;
+        index = index.saturating_add(1);
+    }
+    sum = sum.saturating_add(times.group(index));
+    out.push(put_bucket("+Inf", sum))?;
+    out.push(seconds("put_seconds_sum", times.millis()))?;
+    out.push(number("put_seconds_count", sum))?;
+    Ok(())
+}
+
 // The saves, and the last one.
 fn push_saves<R: Machine>(
     rt: &R,
@@ -199,6 +220,7 @@ fn push_counters<R: Machine>(
     push_refusals(out, counters)?;
     push_requests(out, counters)?;
     push_sessions(out, counters)?;
+    push_put_times(out, &counters.put_times)?;
     push_saves(rt, out, counters)
 }
 

@@ -6,6 +6,9 @@ use std::time::Clock;
 /// The kind of a request to fold.
 const FOLD: u8 = 13;
 
+/// The kind of the reply to a put that was accepted.
+const ACCEPTED: u8 = 0x81;
+
 /// How many words of 64 bits there are for requests that aren't answered yet. All that stand whole in what was read are
 /// answered before more is read, which is at most 65,536 bytes: some 13,000 requests, of five bytes at least.
 const WORDS: u64 = 256;
@@ -112,9 +115,11 @@ impl Traffic {
         self.asked.is_fold(self.answered.wrapping_add(ahead))
     }
 
-    /// Counts bytes that were written, and the refusals and saves that begin among them.
-    pub fn note_written(&mut self, clock: &impl Clock, counters: &Counters, bytes: &[u8]) {
+    /// Counts bytes that were written, and the refusals and saves that begin among them. How many of the replies that
+    /// begin there accept a put.
+    pub fn note_written(&mut self, clock: &impl Clock, counters: &Counters, bytes: &[u8]) -> u64 {
         counters.note_sent(bytes.len() as u64);
+        let mut accepted = 0u64;
         let mut rest = bytes;
         for _ in 0..bytes.len() {
             let (seen, behind) = self.replies.next(rest);
@@ -127,6 +132,10 @@ impl Traffic {
             if !is_fold || !matches!(seen, Seen::Saved(_)) {
                 counters.note_reply(clock, seen);
             }
+            if seen == Seen::Kind(ACCEPTED) {
+                accepted = accepted.saturating_add(1);
+            }
         }
+        accepted
     }
 }
