@@ -1,4 +1,5 @@
 pub mod Options
+pub mod Given
 pub mod Reports
 pub mod Logs
 pub mod Serving

@@ -1,44 +1,53 @@
 //! A server beside a thread that tells what happens to it.
-ghost use Rattle.std.specs.Prelude.{◌+◌, ◌<◌, ◌^◌};
+ghost use Rattle.std.specs.Prelude.{◌≡◌, ◌⊎◌, ◌+◌, ◌<◌, ◌^◌, Err};
 
+use crate::serve::ServeOrder;
+use crate::server::Server;
 use byte_io::Sink;
-use event_log::{Event, FileSizes, tell_events};
+use event_log::{Event, EventLog, FileSizes, tell_events};
 use locked_engine::Status;
-use server_counters::Machine;
-use session_pool::{Disk, LogPlace};
-use socket_server::{FileLog, Host, LogHost, ServerFault, Settings, run_server};
+use socket_server::{ServerFault, Settings};
 use std::alloc::Global;
 use std::io::Eprint;
-use std::net::{Net, TcpListener, TcpStream};
-use std::random::RandomSource;
-use std::sync::{Arc, Wait};
+use std::sync::Arc;
 use std::thread;
 use std::thread::Threads;
 use std::time::Clock;
 
-/// Runs a server, and where what happens is noted tells it beside. Where there is no thread for that, it is told at the
-/// end.
-pub fn run_told<
-    R: Threads
-        + Wait
-        + Clock
-        + Machine
-        + Disk
-        + LogPlace<FileLog>
-        + Host
-        + LogHost<FileLog>
-        + RandomSource
-        + Eprint
-        + FileSizes
-        + Net<Listener = TcpListener, Stream = TcpStream>
-        + Sync,
-    W: Sink,
->(rt: &R, alloc: Global, settings: Settings, out: &mut W) -> Result<Status, ServerFault>
+// Runs a server by these settings, and notes how it ends.
+fn run_noted<R: Server<W> + Clock, W: Sink>(
+    rt: &R,
+    alloc: Global,
+    settings: Settings,
+    out: &mut W,
+    events: &EventLog,
+) -> Result<Status, ServerFault>
     requires { W.failure_count out.old + 1 < 2 ^ 64 }
+    ensures { R.has_run rt.now settings result }
 {
+    let outcome = rt.serve(alloc, settings, out);
+    if let Ok(Status { batches, total }) = outcome {
+        events.note(rt, Event::Stopped { batches, total });
+    }
+    events.end(rt);
+    outcome
+}
+
+/// Runs a server as it is ordered, and where what happens is noted tells it beside. Where there is no thread for that, it
+/// is told at the end.
+pub fn run_told<R: Server<W> + Threads + Clock + Eprint + FileSizes + Sync, W: Sink>(
+    rt: &R,
+    alloc: Global,
+    order: ServeOrder,
+    out: &mut W,
+) -> Result<Status, ServerFault>
+    requires { W.failure_count out.old + 1 < 2 ^ 64 }
+    ensures { R.has_run rt.now order.settings result ⊎ (result ≡ Err ServerFault.Memory) }
+{
+    let settings = order.into_settings();
     let copy = match &settings.events {
         Some(events) => Arc::try_clone(events),
-        None => return run_server::<FileLog, R, W>(rt, alloc, settings, out),
+        None => return rt.serve(alloc, settings, out),
     };
     let Ok(events) = copy else {
         return Err(ServerFault::Memory);
@@ -48,14 +57,7 @@ pub fn run_told<
         || tell_events(rt, &events),
         ||
             requires { W.failure_count out.now + 1 < 2 ^ 64 }
-        {
-            let outcome = run_server::<FileLog, R, W>(rt, alloc, settings, out);
-            if let Ok(Status { batches, total }) = outcome {
-                events.note(rt, Event::Stopped { batches, total });
-            }
-            events.end(rt);
-            outcome
-        },
+        { run_noted(rt, alloc, settings, out, &events) },
     );
     outcome
 }
