@@ -1,5 +1,6 @@
 pub mod Options
 pub mod Given
+pub mod Asked
 pub mod Reports
 pub mod Logs
 pub mod Serving

@@ -132,14 +132,16 @@ pub fn settings_of(alloc: Global, matches: &ArgMatches) -> Result<Settings, Faul
     let drain = limit_of(matches, "drain")?;
     let lock_wait = limit_of(matches, "lock-wait")?;
     let numbers = numbers_of(alloc, matches)?;
+    let snapshot = word_of(alloc, matches, "snapshot")?;
+    let log = word_of(alloc, matches, "log")?;
     Ok(Settings {
         tcp: word_of(alloc, matches, "tcp")?,
         unix: word_of(alloc, matches, "unix")?,
         numbers,
         workers,
         compactors,
-        snapshot: word_of(alloc, matches, "snapshot")?,
-        log: word_of(alloc, matches, "log")?,
+        snapshot,
+        log,
         must_load: flag_of(matches, "must-load"),
         must_save: flag_of(matches, "must-save"),
         lock_wait,

@@ -5,6 +5,9 @@
 //! `socket_server` serves.
 #![tactic(auto)]
 
+ghost use Rattle.std.specs.Prelude.{IfOk};
+ghost use Rattle.hhm.specs.Asked.{IsAsked};
+
 mod cli;
 mod export_cli;
 mod export_files;
@@ -113,7 +116,9 @@ fn run(rt: &HostRuntime) -> Result<Outcome, Fault> {
 }
 
 /// Does what a command line that was read asks for, but for a server.
-fn run_matches(rt: &HostRuntime, matches: &ArgMatches) -> Result<Outcome, Fault> {
+fn run_matches(rt: &HostRuntime, matches: &ArgMatches) -> Result<Outcome, Fault>
+    ensures { IfOk result (IsAsked ⟦<HostRuntime as PathHost>⟧.leads rt.now matches.now) }
+{
     match matches.subcommand() {
         Some(("serve", given)) => Ok(Outcome::Serve(order_of(rt, rt.alloc(), given)?)),
         Some(("sum", given)) => Ok(Outcome::Ended(run_sum_word(rt, given))),
