@@ -1,4 +1,6 @@
 -- The settings of a server that the words of `serve` spell, of which clap found these entries.
+--     IsNamed arg name
+--                     clap finds the words of this argument under this name, and the command line has it as --NAME
 --     IsNumber f name n
 --                     the option has a word, which writes n
 --     IsNumberOr f name default n
@@ -22,10 +24,14 @@ use Rattle.std.specs.Prelude.{String, string_bytes, option_map, option_and_then,
 use Rattle.std.specs.Int.NonZero.{non_zero_u64_get}
 use Rattle.std.specs.declared.num.NonZeroU64.{NonZeroU64}
 use Rattle.clap.specs.Words.{first_value, one_text}
+use Rattle.clap.specs.declared.builder.arg.Arg.{Arg}
 use Rattle.clap.specs.declared.parser.matches.Found.{Found}
 use Rattle.batch_store.specs.declared.given_numbers.GivenNumbers.{GivenNumbers}
 use Rattle.socket_server.specs.declared.settings.Settings.{Settings}
 use Rattle.hhm.specs.Options.{option_number, option_list}
+
+abbrev pub IsNamed : Arg → List ℕ → Type 0
+IsNamed arg name = (arg.id.now ≡ name) × (option_map (λ word. word.now) arg.long ≡ Some name)
 
 abbrev pub IsNumber : Found → List ℕ → ℕ → Type 0
 IsNumber f name n = option_and_then option_number (first_value f name) ≡ Some n

@@ -4,3 +4,4 @@ pub mod Asked
 pub mod Reports
 pub mod Logs
 pub mod Serving
+pub mod Served

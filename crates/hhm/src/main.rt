@@ -22,7 +22,6 @@ mod query_cli;
 mod report;
 mod serve;
 mod serve_cli;
-mod server;
 mod streams;
 mod sum_files;
 mod told;

@@ -1,31 +1,42 @@
 //! A server beside a thread that tells what happens to it.
-ghost use Rattle.std.specs.Prelude.{◌≡◌, ◌⊎◌, ◌+◌, ◌<◌, ◌^◌, Err};
+ghost use Rattle.std.specs.Prelude.{◌≡◌, ◌⊎◌, ◌+◌, ◌<◌, ◌^◌, Err, IfOk, IfErr, is_some, true};
+ghost use Rattle.batch_store.specs.Accepted.{Accepted};
+ghost use Rattle.batch_store.specs.Setups.{Setting};
+ghost use Rattle.hhm.specs.Served.{IsJudged};
+ghost use Rattle.session_pool.specs.Saves.{of_origin};
+ghost use Rattle.snap_file.specs.Origins.{origin};
+ghost use Rattle.snap_file.specs.declared.origin.Identity.{Identity};
+ghost use Rattle.socket_server.specs.Ends.{HasEnded, IsShort, stopped};
+ghost use Rattle.socket_server.specs.Starts.{IsLocked, StartsFrom};
 
 use crate::serve::ServeOrder;
-use crate::server::Server;
 use byte_io::Sink;
 use event_log::{Event, EventLog, FileSizes, tell_events};
 use locked_engine::Status;
-use socket_server::{ServerFault, Settings};
+use log_desk::Log;
+use server_counters::Machine;
+use session_pool::{Disk, LogPlace};
+use socket_server::{FileLog, Host, LogHost, ServerFault, Settings, run_server};
 use std::alloc::Global;
 use std::io::Eprint;
-use std::sync::Arc;
+use std::net::{Net, TcpListener, TcpStream};
+use std::random::RandomSource;
+use std::sync::{Arc, Wait};
 use std::thread;
 use std::thread::Threads;
 use std::time::Clock;
 
-// Runs a server by these settings, and notes how it ends.
-fn run_noted<R: Server<W> + Clock, W: Sink>(
+// Serves by these settings, and notes how that ends.
+fn serve_noted<R: Wait + Clock, F: FnOnce(Settings) -> Result<Status, ServerFault>>(
     rt: &R,
-    alloc: Global,
     settings: Settings,
-    out: &mut W,
     events: &EventLog,
+    serve: F,
 ) -> Result<Status, ServerFault>
-    requires { W.failure_count out.old + 1 < 2 ^ 64 }
-    ensures { R.has_run rt.now settings result }
+    requires { F.pre serve settings }
+    ensures { F.post serve settings result }
 {
-    let outcome = rt.serve(alloc, settings, out);
+    let outcome = serve(settings);
     if let Ok(Status { batches, total }) = outcome {
         events.note(rt, Event::Stopped { batches, total });
     }
@@ -33,21 +44,18 @@ fn run_noted<R: Server<W> + Clock, W: Sink>(
     outcome
 }
 
-/// Runs a server as it is ordered, and where what happens is noted tells it beside. Where there is no thread for that, it
-/// is told at the end.
-pub fn run_told<R: Server<W> + Threads + Clock + Eprint + FileSizes + Sync, W: Sink>(
-    rt: &R,
-    alloc: Global,
-    order: ServeOrder,
-    out: &mut W,
-) -> Result<Status, ServerFault>
-    requires { W.failure_count out.old + 1 < 2 ^ 64 }
-    ensures { R.has_run rt.now order.settings result ⊎ (result ≡ Err ServerFault.Memory) }
+// Serves by these very settings, whatever `serve` makes of them, and where what happens is noted tells it beside. Where
+// there is no thread for that, it is told at the end.
+fn serve_told<
+    R: Threads + Wait + Clock + Eprint + FileSizes + Sync,
+    F: FnOnce(Settings) -> Result<Status, ServerFault>,
+>(rt: &R, settings: Settings, serve: F) -> Result<Status, ServerFault>
+    requires { F.pre serve settings }
+    ensures { F.post serve settings result ⊎ (result ≡ Err ServerFault.Memory) }
 {
-    let settings = order.into_settings();
     let copy = match &settings.events {
         Some(events) => Arc::try_clone(events),
-        None => return rt.serve(alloc, settings, out),
+        None => return serve(settings),
     };
     let Ok(events) = copy else {
         return Err(ServerFault::Memory);
@@ -56,8 +64,50 @@ pub fn run_told<R: Server<W> + Threads + Clock + Eprint + FileSizes + Sync, W: S
         rt,
         || tell_events(rt, &events),
         ||
-            requires { W.failure_count out.now + 1 < 2 ^ 64 }
-        { run_noted(rt, alloc, settings, out, &events) },
+            requires { F.pre serve settings }
+        { serve_noted(rt, settings, &events, serve) },
     );
     outcome
+}
+
+/// Runs a server as it is ordered, and where what happens is noted tells it beside. Its clauses are those of
+/// `run_server`, of the settings of the order.
+pub fn run_told<
+    R: Threads
+        + Wait
+        + Clock
+        + Machine
+        + Disk
+        + LogPlace<FileLog>
+        + Host
+        + LogHost<FileLog>
+        + RandomSource
+        + Eprint
+        + FileSizes
+        + Net<Listener = TcpListener, Stream = TcpStream>
+        + Sync,
+    W: Sink,
+>(rt: &R, alloc: Global, order: ServeOrder, out: &mut W) -> Result<Status, ServerFault>
+    requires { W.failure_count out.old + 1 < 2 ^ 64 }
+    ensures judged { IsJudged order.settings result ⊎ (result ≡ Err ServerFault.Memory) }
+    ensures locked { IfOk result (λ _. IsLocked R.locks rt.now order.settings.snapshot order.settings.must_save) }
+    ensures log_locked { IfOk result (λ _. IsLocked R.locks rt.now order.settings.log true) }
+    ensures ended { let t = order.settings in IfOk result (λ s. (v : Setting) × (a : Accepted) × (i : Identity)
+        × StartsFrom R.loads R.log_heads R.log_starts R.saves R.begins R.names rt.now t.snapshot t.log t.must_load
+        t.numbers v i a × HasEnded (of_origin R.saves (origin i (is_some t.log))) rt.now
+        ⟦<FileLog as Log>⟧.was_synced ⟦<FileLog as Log>⟧.has_failed ⟦<FileLog as Log>⟧.was_full t.snapshot v
+        (is_some t.log) a (stopped s 0)) }
+    ensures short { let t = order.settings in IfErr result (IsShort (λ s. (v : Setting) × (a : Accepted)
+        × (i : Identity) × StartsFrom R.loads R.log_heads R.log_starts R.saves R.begins R.names rt.now t.snapshot t.log
+        t.must_load t.numbers v i a × HasEnded (of_origin R.saves (origin i (is_some t.log))) rt.now
+        ⟦<FileLog as Log>⟧.was_synced ⟦<FileLog as Log>⟧.has_failed ⟦<FileLog as Log>⟧.was_full t.snapshot v
+        (is_some t.log) a s)) }
+{
+    serve_told(
+        rt,
+        order.into_settings(),
+        |settings|
+            requires { W.failure_count out.now + 1 < 2 ^ 64 }
+        { run_server::<FileLog, R, W>(rt, alloc, settings, out) },
+    )
 }
