@@ -8,6 +8,7 @@ line for each case that fails and at the end `N passed, M failed`; the status is
 but Python's own library.
 """
 import os
+import re
 import resource
 import signal
 import subprocess
@@ -763,9 +764,37 @@ def the_example(program):
         yield case.name, run(program, case, stdin=text)
 
 
+def clauses_of_settings():
+    """The clauses of `AreGiven`, what is said of the setting of each option: by its name the options that it names."""
+    with open(os.path.join(HERE, "..", "crates", "hhm", "specs", "Given.antt"), encoding="utf-8") as file:
+        spec = file.read()
+    clauses = {}
+    for record in ("AreNumbersGiven", "AreGiven"):
+        body = re.search(rf"^pub record {record} .*?where\n(.*?)(?=\n\n|\Z)", spec, re.M | re.S)[1]
+        for clause in re.split(r"^  pub ", body, flags=re.M)[1:]:
+            name = clause.partition(" :")[0].replace("_", "-")
+            clauses[name] = set(re.findall(r'codes "([a-z-]+)"', clause))
+    # All numbers of a setup, whose own clauses are there too.
+    del clauses["numbers"]
+    return clauses
+
+
+def a_clause_for_each_option(program):
+    """Each option of `serve` has its clause, which says what its setting is, and names no other option."""
+    told = subprocess.run([program, "serve", "--help"], stdout=subprocess.PIPE, check=True, text=True).stdout
+    options = set(re.findall(r"^ {6}--([a-z-]+)", told, re.M))
+    clauses = clauses_of_settings()
+    wrong = [f"--{name} has no clause" for name in sorted(options - set(clauses))]
+    wrong += [f"no option --{name} goes with a clause" for name in sorted(set(clauses) - options)]
+    wrong += [f"the clause {name} names {sorted(named)}" for name, named in clauses.items() if named != {name}]
+    if len(options) < 20:
+        wrong.append(f"serve has {len(options)} options")
+    yield "a clause for each option of serve", wrong
+
+
 DEVICES = [
-    a_folder_as_input, an_output_that_fails, an_input_that_is_closed, an_input_that_stays_open, a_limit_of_memory,
-    snapshots, exports, folds, sums_of_files, flipped_bits, the_example,
+    a_clause_for_each_option, a_folder_as_input, an_output_that_fails, an_input_that_is_closed,
+    an_input_that_stays_open, a_limit_of_memory, snapshots, exports, folds, sums_of_files, flipped_bits, the_example,
 ]  # fmt: skip
 
 

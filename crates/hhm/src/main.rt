@@ -5,13 +5,18 @@
 //! `socket_server` serves.
 #![tactic(auto)]
 
+ghost use Rattle.std.specs.Prelude.{IfOk};
+ghost use Rattle.hhm.specs.Asked.{IsAsked};
+
 mod cli;
 mod export_cli;
 mod export_files;
+mod given;
 mod limits;
 mod log_report;
 mod memory;
 mod numbers;
+mod path_host;
 mod query;
 mod query_cli;
 mod report;
@@ -22,11 +27,13 @@ mod sum_files;
 mod told;
 
 use crate::export_files::{NamedSnapshots, file_of};
+use crate::given::numbers_of;
 use crate::memory::keep_freed_memory;
 use crate::numbers::read_list;
+use crate::path_host::PathHost;
 use crate::query::{range_of, side_of, top_query_of};
 use crate::report::Fault;
-use crate::serve::{has_one_place, numbers_of, settings_of, status_of};
+use crate::serve::{ServeOrder, order_of, status_of};
 use crate::streams::ClosedStreams;
 use crate::sum_files::{NamedTexts, has_input, is_input_alone, place_of};
 use crate::told::run_told;
@@ -44,11 +51,11 @@ use snap_report::{
     run_check_with_log, run_export, run_fold, run_fold_to, run_fold_with_log, run_fork,
     run_fork_with_log,
 };
-use socket_server::{ServerFault, Settings, is_reserved};
+use socket_server::{ServerFault, is_reserved};
 use std::alloc::AllocError;
 use std::io::IsTerminal;
 use std::process::ExitCode;
-use std::{env, fs, io};
+use std::{env, io};
 
 /// A line on a terminal, where there is one.
 type Shown<'a> = Option<ProgressLine<'a, HostRuntime>>;
@@ -59,16 +66,16 @@ enum Outcome {
     /// All of it was done.
     Ended(ExitCode),
     /// A server is to be run, and where events are asked for, they are told.
-    Serve(Settings),
+    Serve(ServeOrder),
 }
 
 fn main(rt: HostRuntime) -> ExitCode {
     let _streams = ClosedStreams::take(&rt);
     match run(&rt) {
         Ok(Outcome::Ended(code)) => code,
-        Ok(Outcome::Serve(settings)) => {
+        Ok(Outcome::Serve(order)) => {
             let mut out = Counted::new(rt.stdout());
-            match run_told(&rt, rt.alloc(), settings, &mut out) {
+            match run_told(&rt, rt.alloc(), order, &mut out) {
                 Ok(_) => ExitCode::SUCCESS,
                 Err(fault) => tell_server_fault(&rt, fault),
             }
@@ -108,15 +115,11 @@ fn run(rt: &HostRuntime) -> Result<Outcome, Fault> {
 }
 
 /// Does what a command line that was read asks for, but for a server.
-fn run_matches(rt: &HostRuntime, matches: &ArgMatches) -> Result<Outcome, Fault> {
+fn run_matches(rt: &HostRuntime, matches: &ArgMatches) -> Result<Outcome, Fault>
+    ensures { IfOk result (IsAsked ⟦<HostRuntime as PathHost>⟧.leads rt.now matches.now) }
+{
     match matches.subcommand() {
-        Some(("serve", serve)) => {
-            let settings = without_links(rt, settings_of(rt.alloc(), serve)?)?;
-            if has_one_place(rt, &settings) {
-                return Err(Fault::SamePath);
-            }
-            Ok(Outcome::Serve(settings))
-        }
+        Some(("serve", given)) => Ok(Outcome::Serve(order_of(rt, rt.alloc(), given)?)),
         Some(("sum", given)) => Ok(Outcome::Ended(run_sum_word(rt, given))),
         Some(("export", given)) => Ok(Outcome::Ended(run_export_word(rt, given))),
         Some(("fold", given)) => {
@@ -133,35 +136,6 @@ fn run_matches(rt: &HostRuntime, matches: &ArgMatches) -> Result<Outcome, Fault>
         }
         None => Ok(Outcome::Ended(ExitCode::SUCCESS)),
     }
-}
-
-/// The settings with the paths of the files that links lead to. The names of files beside them are made of these, so
-/// that each who starts them by another link makes the same.
-fn without_links(rt: &HostRuntime, settings: Settings) -> Result<Settings, Fault> {
-    let snapshot = match &settings.snapshot {
-        Some(path) => Some(resolved(rt, path.as_str())?),
-        None => None,
-    };
-    let log = match &settings.log {
-        Some(path) => Some(resolved(rt, path.as_str())?),
-        None => None,
-    };
-    Ok(Settings {
-        snapshot,
-        log,
-        ..settings
-    })
-}
-
-/// A path, or where it is a link that of the file that it leads to.
-fn resolved(rt: &HostRuntime, path: &str) -> Result<String, AllocError> {
-    let is_link = matches!(fs::symlink_metadata(rt, path), Ok(found) if found.is_symlink());
-    if is_link {
-        if let Ok(target) = fs::canonicalize(rt, path) {
-            return target.as_str().to_string(rt.alloc());
-        }
-    }
-    path.to_string(rt.alloc())
 }
 
 /// Does what a word asks for that is given the path of a snapshot. How far the reading has come is said on a terminal.
@@ -365,7 +339,7 @@ fn run_fold_word(rt: &HostRuntime, given: &ArgMatches) -> Result<(), Fault> {
 /// The path of a file that is read where others are written, without links. None of its names may be one that hhm makes
 /// beside a file: such a file would be replaced.
 fn path_to_read(rt: &HostRuntime, path: &str, fault: Fault) -> Result<String, Fault> {
-    let found = resolved(rt, path)?;
+    let found = rt.resolved(rt.alloc(), path)?;
     if is_reserved(path) || is_reserved(found.as_str()) {
         return Err(fault);
     }

@@ -1,28 +1,17 @@
-//! `serve`: its options, and the status that a server's fault ends the program with.
-ghost use Rattle.std.specs.Prelude.{◌≡◌};
+//! `serve`: what a server is run by, and the status that its fault ends the program with.
+ghost use Rattle.std.specs.Prelude.{◌≡◌, IfOk};
+ghost use Rattle.clap.specs.Words.{found_of};
+ghost use Rattle.hhm.specs.Given.{IsLed, IsOrdered, IsResolved};
 ghost use Rattle.hhm.specs.Serving.{server_status};
 
+use crate::given::settings_of;
 use crate::log_report::status_of_log;
-use crate::numbers::{read_list, read_number};
+use crate::path_host::PathHost;
 use crate::report::Fault;
-use batch_store::{GivenNumbers, Setup};
 use clap::ArgMatches;
-use event_log::{EventLog, Paths};
-use snap_file::{FileFault, SnapFault, folder_of};
+use snap_file::{FileFault, SnapFault};
 use socket_server::{ServerFault, Settings, is_reserved};
 use std::alloc::{AllocError, Global};
-use std::fs::{self, File};
-use std::num::NonZeroU64;
-use std::os::unix::fs::MetadataExt;
-use std::rt::Files;
-use std::sync::Arc;
-
-/// The cuts, the shards and the most batches of a server where neither an option nor a file says them.
-const DEFAULT_CUTS: &str = "4096,65536,1048576";
-
-const DEFAULT_SHARDS: u64 = 8;
-
-const DEFAULT_BATCHES: u64 = 1_000_000;
 
 /// The status that a server's fault ends the program with: 2 for settings, 3 for what a snapshot or a log says, 4 for a
 /// device, an address or a thread, 5 for memory, 6 for records that differ.
@@ -57,76 +46,6 @@ pub fn status_of(fault: &ServerFault) -> u8
     }
 }
 
-// The number of an option.
-fn number_of(matches: &ArgMatches, name: &str) -> Result<u64, Fault> {
-    let word = matches.get_str(name).unwrap_or("");
-    match read_number(word.as_bytes()) {
-        Some(number) => Ok(number),
-        None => Err(Fault::BadNumber),
-    }
-}
-
-// The number of an option that is left out or 0 where there is to be no limit.
-fn limit_of(matches: &ArgMatches, name: &str) -> Result<Option<NonZeroU64>, Fault> {
-    if matches.get_str(name).is_none() {
-        return Ok(None);
-    }
-    Ok(NonZeroU64::new(number_of(matches, name)?))
-}
-
-// The word of an option, if it is given.
-fn word_of(alloc: Global, matches: &ArgMatches, name: &str) -> Result<Option<String>, AllocError> {
-    match matches.get_str(name) {
-        Some(word) => Ok(Some(word.to_string(alloc)?)),
-        None => Ok(None),
-    }
-}
-
-// The number of an option, or where it is left out this one.
-fn number_or(matches: &ArgMatches, name: &str, default: u64) -> Result<u64, Fault> {
-    match matches.get_str(name) {
-        Some(_) => number_of(matches, name),
-        None => Ok(default),
-    }
-}
-
-// Whether an option is given.
-fn is_given(matches: &ArgMatches, name: &str) -> bool {
-    matches.get_str(name).is_some()
-}
-
-/// The numbers of a setup that the options of `serve` or `fold` spell. Of rows and columns that aren't given nothing is
-/// read.
-pub fn numbers_of(alloc: Global, matches: &ArgMatches) -> Result<GivenNumbers, Fault> {
-    let rows = number_or(matches, "rows", 1)?;
-    let cols = number_or(matches, "cols", 1)?;
-    let shards = number_or(matches, "shards", DEFAULT_SHARDS)?;
-    let limit = number_or(matches, "limit", u64::MAX)?;
-    let max_batches = number_or(matches, "max-batches", DEFAULT_BATCHES)?;
-    let cuts = read_list(alloc, matches.get_str("cuts").unwrap_or(DEFAULT_CUTS))?;
-    Ok(GivenNumbers {
-        setup: Setup::new(rows, cols, &cuts, shards, limit, max_batches)?,
-        rows: is_given(matches, "rows"),
-        cols: is_given(matches, "cols"),
-        cuts: is_given(matches, "cuts"),
-        shards: is_given(matches, "shards"),
-        limit: is_given(matches, "limit"),
-        max_batches: is_given(matches, "max-batches"),
-    })
-}
-
-// Where what happens is noted, if that is asked for.
-fn events_of(alloc: Global, matches: &ArgMatches) -> Result<Option<Arc<EventLog>>, AllocError> {
-    if !matches.get_flag("events") {
-        return Ok(None);
-    }
-    let paths = Paths {
-        snapshot: word_of(alloc, matches, "snapshot")?,
-        log: word_of(alloc, matches, "log")?,
-    };
-    Ok(Some(Arc::new(alloc, EventLog::new(alloc, paths))?))
-}
-
 // What follows the last slash of a path.
 fn last_name(path: &str) -> &str {
     match path.rsplit_once('/') {
@@ -135,52 +54,80 @@ fn last_name(path: &str) -> &str {
     }
 }
 
-// Which folder a path is in: its device, and its number there. None where that can't be told.
-fn folder_id<R: Files<File = File>>(rt: &R, path: &str) -> Option<(u64, u64)> {
-    let found = fs::metadata(rt, folder_of(path)).ok()?;
-    Some((found.dev(), found.ino()))
-}
-
-/// Whether the snapshot and the log lead to one name in one folder, however their paths are spelled. Of a name that they
-/// may not have something else is told.
-pub fn has_one_place<R: Files<File = File>>(rt: &R, settings: &Settings) -> bool {
+// Whether the snapshot and the log lead to one name in one folder, however their paths are spelled. Of a name that they
+// may not have something else is told.
+fn has_one_place<R: PathHost>(rt: &R, settings: &Settings) -> bool {
     let (Some(path), Some(log)) = (&settings.snapshot, &settings.log) else {
         return false;
     };
     let (path, log) = (path.as_str(), log.as_str());
     !is_reserved(path)
         && last_name(path) == last_name(log)
-        && match (folder_id(rt, path), folder_id(rt, log)) {
+        && match (rt.folder_id(path), rt.folder_id(log)) {
             (Some(one), Some(other)) => one == other,
             _ => false,
         }
 }
 
-/// The settings that the options spell. All numbers are read before the setup is judged.
-pub fn settings_of(alloc: Global, matches: &ArgMatches) -> Result<Settings, Fault> {
-    let workers = number_of(matches, "workers")?;
-    let compactors = number_of(matches, "compactors")?;
-    let sessions = number_of(matches, "sessions")?;
-    let fold_above = number_of(matches, "fold-above")?;
-    let idle = limit_of(matches, "idle")?;
-    let drain = limit_of(matches, "drain")?;
-    let lock_wait = limit_of(matches, "lock-wait")?;
-    let numbers = numbers_of(alloc, matches)?;
+// A path, if there is one, without links.
+fn led<R: PathHost>(
+    rt: &R,
+    alloc: Global,
+    path: &Option<String>,
+) -> Result<Option<String>, AllocError>
+    ensures { IfOk result (λ target. IsLed R.leads rt.now path.now target) }
+{
+    match path {
+        Some(path) => Ok(Some(rt.resolved(alloc, path.as_str())?)),
+        None => Ok(None),
+    }
+}
+
+// The settings with the paths of the files that links lead to. The names of files beside them are made of these, so
+// that each who starts them by another link makes the same.
+fn without_links<R: PathHost>(
+    rt: &R,
+    alloc: Global,
+    settings: Settings,
+) -> Result<Settings, AllocError>
+    ensures { IfOk result (λ found. IsResolved R.leads rt.now settings found) }
+{
+    let snapshot = led(rt, alloc, &settings.snapshot)?;
+    let log = led(rt, alloc, &settings.log)?;
     Ok(Settings {
-        tcp: word_of(alloc, matches, "tcp")?,
-        unix: word_of(alloc, matches, "unix")?,
-        numbers,
-        workers,
-        compactors,
-        snapshot: word_of(alloc, matches, "snapshot")?,
-        log: word_of(alloc, matches, "log")?,
-        must_load: matches.get_flag("must-load"),
-        must_save: matches.get_flag("must-save"),
-        lock_wait,
-        sessions,
-        fold_above,
-        idle,
-        drain,
-        events: events_of(alloc, matches)?,
+        snapshot,
+        log,
+        ..settings
     })
+}
+
+/// What a server is run by: the settings that the words of `serve` spell, with the paths of the files that links lead
+/// to. Only `order_of` makes one, and nothing changes it.
+#[derive(Drop)]
+pub struct ServeOrder {
+    settings: Settings,
+}
+
+impl ServeOrder {
+    /// Its settings, to serve by.
+    pub fn into_settings(self) -> Settings
+        ensures { result ≡ self.settings }
+    {
+        self.settings
+    }
+}
+
+/// What a server is run by for these words of `serve`.
+pub fn order_of<R: PathHost>(
+    rt: &R,
+    alloc: Global,
+    matches: &ArgMatches,
+) -> Result<ServeOrder, Fault>
+    ensures { IfOk result (λ order. IsOrdered R.leads rt.now (found_of matches.now) order.settings) }
+{
+    let settings = without_links(rt, alloc, settings_of(alloc, matches)?)?;
+    if has_one_place(rt, &settings) {
+        return Err(Fault::SamePath);
+    }
+    Ok(ServeOrder { settings })
 }

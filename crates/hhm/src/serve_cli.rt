@@ -1,4 +1,7 @@
 //! The options of `serve`, as `clap` reads them.
+ghost use Rattle.std.specs.Prelude.{◌≡◌, IfOk, Some, codes, map, option_map, option_to_list};
+ghost use Rattle.clap.specs.Words.{items_of};
+ghost use Rattle.hhm.specs.Given.{IsNamed};
 
 use clap::builder::ValueParser;
 use clap::{Arg, ArgAction, ArgGroup, Command};
@@ -225,14 +228,21 @@ static OPTIONS: &[ServeOption] = &[
 ];
 
 // Whether what happens is told.
-fn events_arg<'a>(alloc: Global) -> Arg<'a> {
+fn events_arg<'a>(alloc: Global) -> Arg<'a>
+    ensures { IsNamed result (codes "events") }
+{
     Arg::new(alloc, "events")
         .long("events")
         .action(ArgAction::SetTrue)
         .help("Write a line to standard error for what happens: starts, saves, refusals, ends")
 }
 
-fn arg_of<'a>(alloc: Global, option: &'a ServeOption) -> Arg<'a> {
+// An option under its own name, with its default.
+fn arg_of<'a>(alloc: Global, option: &'a ServeOption) -> Arg<'a>
+    ensures named { IsNamed result option.entry.now.name.now }
+    ensures defaults { map (λ word. word.now) (items_of result.default_vals)
+        ≡ option_to_list (option_map (λ word. word.now) option.entry.now.default) }
+{
     let arg = Arg::new(alloc, option.name)
         .long(option.name)
         .value_name(option.value)
@@ -248,7 +258,10 @@ fn arg_of<'a>(alloc: Global, option: &'a ServeOption) -> Arg<'a> {
     }
 }
 
-fn flag_of<'a>(alloc: Global, flag: &'a ServeFlag) -> Result<Arg<'a>, AllocError> {
+// A flag under its own name.
+fn flag_of<'a>(alloc: Global, flag: &'a ServeFlag) -> Result<Arg<'a>, AllocError>
+    ensures { IfOk result (λ arg. IsNamed arg flag.entry.now.name.now) }
+{
     Arg::new(alloc, flag.name)
         .long(flag.name)
         .action(ArgAction::SetTrue)

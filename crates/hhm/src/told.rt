@@ -1,9 +1,19 @@
 //! A server beside a thread that tells what happens to it.
-ghost use Rattle.std.specs.Prelude.{◌+◌, ◌<◌, ◌^◌};
+ghost use Rattle.std.specs.Prelude.{◌≡◌, ◌⊎◌, ◌+◌, ◌<◌, ◌^◌, Err, IfOk, IfErr, is_some, true};
+ghost use Rattle.batch_store.specs.Accepted.{Accepted};
+ghost use Rattle.batch_store.specs.Setups.{Setting};
+ghost use Rattle.hhm.specs.Served.{IsJudged};
+ghost use Rattle.session_pool.specs.Saves.{of_origin};
+ghost use Rattle.snap_file.specs.Origins.{origin};
+ghost use Rattle.snap_file.specs.declared.origin.Identity.{Identity};
+ghost use Rattle.socket_server.specs.Ends.{HasEnded, IsShort, stopped};
+ghost use Rattle.socket_server.specs.Starts.{IsLocked, StartsFrom};
 
+use crate::serve::ServeOrder;
 use byte_io::Sink;
-use event_log::{Event, FileSizes, tell_events};
+use event_log::{Event, EventLog, FileSizes, tell_events};
 use locked_engine::Status;
+use log_desk::Log;
 use server_counters::Machine;
 use session_pool::{Disk, LogPlace};
 use socket_server::{FileLog, Host, LogHost, ServerFault, Settings, run_server};
@@ -16,8 +26,52 @@ use std::thread;
 use std::thread::Threads;
 use std::time::Clock;
 
-/// Runs a server, and where what happens is noted tells it beside. Where there is no thread for that, it is told at the
-/// end.
+// Serves by these settings, and notes how that ends.
+fn serve_noted<R: Wait + Clock, F: FnOnce(Settings) -> Result<Status, ServerFault>>(
+    rt: &R,
+    settings: Settings,
+    events: &EventLog,
+    serve: F,
+) -> Result<Status, ServerFault>
+    requires { F.pre serve settings }
+    ensures { F.post serve settings result }
+{
+    let outcome = serve(settings);
+    if let Ok(Status { batches, total }) = outcome {
+        events.note(rt, Event::Stopped { batches, total });
+    }
+    events.end(rt);
+    outcome
+}
+
+// Serves by these very settings, whatever `serve` makes of them, and where what happens is noted tells it beside. Where
+// there is no thread for that, it is told at the end.
+fn serve_told<
+    R: Threads + Wait + Clock + Eprint + FileSizes + Sync,
+    F: FnOnce(Settings) -> Result<Status, ServerFault>,
+>(rt: &R, settings: Settings, serve: F) -> Result<Status, ServerFault>
+    requires { F.pre serve settings }
+    ensures { F.post serve settings result ⊎ (result ≡ Err ServerFault.Memory) }
+{
+    let copy = match &settings.events {
+        Some(events) => Arc::try_clone(events),
+        None => return serve(settings),
+    };
+    let Ok(events) = copy else {
+        return Err(ServerFault::Memory);
+    };
+    let ((), outcome) = thread::join(
+        rt,
+        || tell_events(rt, &events),
+        ||
+            requires { F.pre serve settings }
+        { serve_noted(rt, settings, &events, serve) },
+    );
+    outcome
+}
+
+/// Runs a server as it is ordered, and where what happens is noted tells it beside. Its clauses are those of
+/// `run_server`, of the settings of the order.
 pub fn run_told<
     R: Threads
         + Wait
@@ -33,29 +87,27 @@ pub fn run_told<
         + Net<Listener = TcpListener, Stream = TcpStream>
         + Sync,
     W: Sink,
->(rt: &R, alloc: Global, settings: Settings, out: &mut W) -> Result<Status, ServerFault>
+>(rt: &R, alloc: Global, order: ServeOrder, out: &mut W) -> Result<Status, ServerFault>
     requires { W.failure_count out.old + 1 < 2 ^ 64 }
+    ensures judged { IsJudged order.settings result ⊎ (result ≡ Err ServerFault.Memory) }
+    ensures locked { IfOk result (λ _. IsLocked R.locks rt.now order.settings.snapshot order.settings.must_save) }
+    ensures log_locked { IfOk result (λ _. IsLocked R.locks rt.now order.settings.log true) }
+    ensures ended { let t = order.settings in IfOk result (λ s. (v : Setting) × (a : Accepted) × (i : Identity)
+        × StartsFrom R.loads R.log_heads R.log_starts R.saves R.begins R.names rt.now t.snapshot t.log t.must_load
+        t.numbers v i a × HasEnded (of_origin R.saves (origin i (is_some t.log))) rt.now
+        ⟦<FileLog as Log>⟧.was_synced ⟦<FileLog as Log>⟧.has_failed ⟦<FileLog as Log>⟧.was_full t.snapshot v
+        (is_some t.log) a (stopped s 0)) }
+    ensures short { let t = order.settings in IfErr result (IsShort (λ s. (v : Setting) × (a : Accepted)
+        × (i : Identity) × StartsFrom R.loads R.log_heads R.log_starts R.saves R.begins R.names rt.now t.snapshot t.log
+        t.must_load t.numbers v i a × HasEnded (of_origin R.saves (origin i (is_some t.log))) rt.now
+        ⟦<FileLog as Log>⟧.was_synced ⟦<FileLog as Log>⟧.has_failed ⟦<FileLog as Log>⟧.was_full t.snapshot v
+        (is_some t.log) a s)) }
 {
-    let copy = match &settings.events {
-        Some(events) => Arc::try_clone(events),
-        None => return run_server::<FileLog, R, W>(rt, alloc, settings, out),
-    };
-    let Ok(events) = copy else {
-        return Err(ServerFault::Memory);
-    };
-    let ((), outcome) = thread::join(
+    serve_told(
         rt,
-        || tell_events(rt, &events),
-        ||
+        order.into_settings(),
+        |settings|
             requires { W.failure_count out.now + 1 < 2 ^ 64 }
-        {
-            let outcome = run_server::<FileLog, R, W>(rt, alloc, settings, out);
-            if let Ok(Status { batches, total }) = outcome {
-                events.note(rt, Event::Stopped { batches, total });
-            }
-            events.end(rt);
-            outcome
-        },
-    );
-    outcome
+        { run_server::<FileLog, R, W>(rt, alloc, settings, out) },
+    )
 }
