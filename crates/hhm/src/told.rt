@@ -1,4 +1,4 @@
-//! A server beside a thread that tells what happens to it.
+//! A server beside a thread that reports what happens to it.
 ghost use Rattle.std.specs.Prelude.{◌≡◌, ◌⊎◌, ◌+◌, ◌<◌, ◌^◌, Err, IfOk, IfErr, is_some, true};
 ghost use Rattle.batch_store.specs.Accepted.{Accepted};
 ghost use Rattle.batch_store.specs.Setups.{Setting};
@@ -44,8 +44,8 @@ fn serve_noted<R: Wait + Clock, F: FnOnce(Settings) -> Result<Status, ServerFaul
     outcome
 }
 
-// Serves by these very settings, whatever `serve` makes of them, and where what happens is noted tells it beside. Where
-// there is no thread for that, it is told at the end.
+// Serves by these very settings, whatever `serve` makes of them. Where what happens is noted, a thread reports it beside,
+// or where there is none it is reported at the end.
 fn serve_told<
     R: Threads + Wait + Clock + Eprint + FileSizes + Sync,
     F: FnOnce(Settings) -> Result<Status, ServerFault>,
@@ -70,8 +70,8 @@ fn serve_told<
     outcome
 }
 
-/// Runs a server as it is ordered, and where what happens is noted tells it beside. Its clauses are those of
-/// `run_server`, of the settings of the order.
+/// Runs a server as it is ordered. Where what happens is noted, a thread reports it beside, or where there is none it is
+/// reported at the end. The clauses are those of `run_server`, of the order's settings.
 pub fn run_told<
     R: Threads
         + Wait
