@@ -232,7 +232,7 @@ def entry_of(batch):
 
 
 def folded_at(batches, at, **how):
-    """A snapshot of these batches of which the first so many are folded."""
+    """A snapshot of these batches. Those before `at` are folded."""
     counts = added(cells_of(batches[:at]))
     past = [entry_of(batch) for batch in batches[:at]], [(*place, counts[place]) for place in sorted(counts)]
     return snapshot(batches[at:], sum(count for _, _, count in cells_of(batches)), past=past, **how)
@@ -243,7 +243,7 @@ def minus(new, old):
 
 
 def differences_are_written(folder):
-    """Each in all pairs of folds: what stands in both with the same count is left out, and a zero that is new is not."""
+    """Each in all pairs of folds. A count that both have is left out, and a zero that is new is not."""
     early = (7, 1, [(0, 0, 5), (2, 2, 4)])
     late = (8, 1, [(0, 0, 3), (0, 1, 0)])
     zero = (9, 1, [(0, 0, 0), (2, 2, 1)])
@@ -317,7 +317,7 @@ def entries_that_are_no_front(folder):
 
 
 def counts_that_fall(folder):
-    """Pairs that stood for two batches of one size: the first place by row and then by column is told."""
+    """Two batches of one size under one name: the fault has the first place by row and then by column."""
     old = [(7, 1, [(0, 1, 8), (1, 1, 1)])]
     for name, cells, place in [
         ("a lower count", [(0, 1, 5), (1, 1, 4)], "row 0 col 1"), ("a later one", [(0, 1, 9), (1, 1, 0)], "row 1 col 1"),
@@ -331,7 +331,7 @@ def counts_that_fall(folder):
 
 
 def differences_in_order(folder):
-    """Of two faults the first in the order of docs/FORMATS.md is told."""
+    """Where there are two faults, the program reports the first in the order of docs/FORMATS.md."""
     def file(name, batches, **how):
         return kept(folder, name, folded_at(batches, 0, **how))
 

@@ -1,5 +1,5 @@
 -- What two snapshots of one book have to do with each other.
-use Rattle.std.proofs.Common.{◌≡◌, ℕ, List, ◌++◌, Result, refl, sym, ap, subst, ◌∙◌}
+use Rattle.std.proofs.Common.{◌≡◌, ℕ, List, Result, refl, sym, ap, subst, ◌∙◌}
 use Rattle.std.specs.FinMap.{empty}
 use Rattle.cells.specs.Bounds.{IsDimension, AreWithin}
 use Rattle.cells.specs.Order.{Rise}

@@ -10,12 +10,12 @@
 --     more_text a x       the canonical text of it, in the dimensions of a
 --     HaveBoth loads s t a b
 --                         the first load after s has answered a and the next one b, which leaves t
---     TellsNew, TellsOld  what is told of the first load, and of the next
---     IsMisfit a b fault  what is told of two that don't go on, in this order: other books, other dimensions, other
---                         entries
+--     TellsNew, TellsOld  what a fault says of the first load, and of the next
+--     IsMisfit a b fault  what a fault says of two that don't go on, in this order: other books, other dimensions,
+--                         other entries
 --     TellsMore loads s t fault
 --                         what a fault says: each only where it is so, and where none that comes before it is
-use Rattle.std.specs.Prelude.{◌≡◌, ◌≢◌, ◌⊎◌, ℕ, ◌<◌, List, ◌++◌, slice_get, Option, Result, Ok, Err}
+use Rattle.std.specs.Prelude.{◌≡◌, ◌≢◌, ◌⊎◌, ℕ, ◌<◌, List, ◌++◌, slice_get, Option, Result, Err}
 use Rattle.cells.specs.Bounds.{IsDimension, AreWithin}
 use Rattle.cells.specs.Order.{Rise}
 use Rattle.cells.specs.declared.cell.Cell.{Cell}
@@ -73,7 +73,7 @@ IsMore a b x = IsDifference (sum_in a) (sum_in b) x
 abbrev pub more_text : Saved → Counts → List ℕ
 more_text a x = matrix_text (matrix a.setup.rows a.setup.cols x)
 
--- what is told of two snapshots of which the second doesn't begin the first
+-- what a fault says of two snapshots where the second doesn't begin the first
 abbrev pub IsMisfit : Saved → Saved → DifferenceFault → Type 0
 IsMisfit a b fault.OtherBook = IsOtherBook a.origin.identity b.origin.identity
 IsMisfit a b fault.DimensionsDiffer = IsOneBook a b × (HaveSameDims a b → ⊥)
@@ -81,12 +81,12 @@ IsMisfit a b (fault.NotBefore at) =
     IsOneBook a b × HaveSameDims a b × IsFirstOther (accepted_in a.list) (accepted_in b.list) at
 IsMisfit a b _ = ⊥
 
--- what is told of a walk over both sums
+-- the fault that reports one of the walk over both sums
 abbrev pub fault_of : MinusFault → DifferenceFault
 fault_of (minus.Falls row col) = fault.Falls row col
 fault_of minus.Memory = fault.Memory
 
--- what is told of two snapshots of which the second begins the first
+-- what a fault says of two snapshots where the second begins the first
 abbrev pub IsUnsubtracted : Saved → Saved → DifferenceFault → Type 0
 IsUnsubtracted a b (fault.Falls row col) = IsFirstFall (sum_in a) (sum_in b) (row, col)
 IsUnsubtracted a b fault.Memory = Unit {0}
@@ -108,11 +108,11 @@ module _ {F : Type 0} (loads : F → ℕ → Result Saved FileFault → F → Ty
   TellsOld s t fault.Memory = loads s most_bytes (Err file.Memory) t
   TellsOld s t _ = ⊥
 
-  -- the first load was answered, and this is told of the next
+  -- the first load was answered, and the fault says this of the next
   abbrev pub TellsSecond : F → F → DifferenceFault → Type 0
   TellsSecond s t told = (a : Saved) × (middle : F) × HasLoaded loads s middle a × TellsOld middle t told
 
-  -- both were answered, and this is told of the two
+  -- both were answered, and the fault says this of the two
   abbrev pub TellsBoth : F → F → DifferenceFault → Type 0
   TellsBoth s t told = (a b : Saved) × HaveBoth s t a b × (IsMisfit a b told ⊎ (IsLater a b × IsUnsubtracted a b told))
 

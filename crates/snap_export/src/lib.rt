@@ -2,8 +2,8 @@
 //! several, and `run_compact` saves it in a folder as a matrix without empty rows and columns, beside the numbers of
 //! those that it has. `run_export_minus` writes what a snapshot has more than an earlier one of the same book.
 //!
-//! What the sum is stands in `specs/Several`, what is numbered anew in `specs/Compact`, and which two snapshots have a
-//! difference in `specs/Minus`. A fault in a file, a total
+//! `specs/Several` says what the sum is, `specs/Compact` how rows and columns are numbered again, and `specs/Minus` when
+//! one snapshot goes on from another. A fault in a file, a total
 //! that passes 2^64 - 1 and want of memory are told before anything is written.
 #![tactic(auto)]
 

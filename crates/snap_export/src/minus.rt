@@ -1,7 +1,7 @@
 //! `export --minus`: loads two snapshots of one book, and writes the canonical text of what the later one has more.
 //!
-//! Both are in memory until they were judged. Then each is added up and let go, so that beside the two sums there is
-//! memory for the cells of the difference.
+//! Both are in memory until they were judged. Then each is added up and let go of. At the end there are the two sums and
+//! the cells of the difference.
 ghost use Rattle.std.specs.Prelude.{◌≡◌, ℕ, ◌+◌, ◌<◌, ◌^◌, ◌⊎◌, Err, OnOk, IfOk, IfErr, IsTrue, ◌↔◌};
 ghost use Rattle.byte_io.specs.Writing.{HasTaken, HasStopped};
 ghost use Rattle.byte_io.specs.declared.fault.WriteFault.{WriteFault};
@@ -87,7 +87,7 @@ fn judge_later(new: &Snapshot, old: &Snapshot) -> Result<(), DifferenceFault>
     }
 }
 
-// The sum of the batches of a snapshot, which is let go.
+// The sum of the batches of a snapshot. The snapshot is let go of.
 fn sum_of(alloc: Global, snapshot: Snapshot) -> Result<Hyper, AllocError>
     requires { AreAccepted snapshot.setup (accepted_in snapshot.list) }
     ensures { IfOk result (λ m. m ≡ matrix snapshot.setup.rows snapshot.setup.cols (sum_in snapshot)) }
@@ -97,7 +97,7 @@ fn sum_of(alloc: Global, snapshot: Snapshot) -> Result<Hyper, AllocError>
     Ok(sum)
 }
 
-// What one snapshot has more than another, of which both are let go.
+// What one snapshot has more than another. Both are let go of.
 fn more_of(alloc: Global, new: Snapshot, old: Snapshot) -> Result<More, MinusFault>
     requires new { AreAccepted new.setup (accepted_in new.list) }
     requires old { AreAccepted old.setup (accepted_in old.list) }
@@ -146,8 +146,8 @@ pub fn run_export_minus<F: SnapshotFiles, W: Sink>(
 ) -> Result<(), DifferenceFault>
     requires { W.failure_count w.old + 1 < 2 ^ 64 }
 
-    // Two loads have answered snapshots of which the first goes on from the second; what was written is the canonical
-    // text of what has to be added to the sum of the second so that the sum of the first comes out.
+    // Two loads have answered snapshots, and the first goes on from the second. The output has the canonical text of
+    // the difference: added to the sum of the second it gives the sum of the first.
     ensures ok { OnOk result ((a b : Saved) × (x : Counts)
         × HaveBoth F.load_gives files.old files.new a b × IsLater a b × IsMore a b x
         × HasTaken W.write_takes W.failure_count w.old w.new (more_text a x)) }

@@ -1,4 +1,4 @@
-//! A law of what came between two lists of one book.
+//! A law of the batches between two lists of one book.
 ghost use Rattle.std.specs.Prelude.{List};
 ghost use Rattle.hyper_matrix.specs.Counts.{Counts};
 ghost use Rattle.matrix_difference.specs.Difference.{IsDifference, HasFewerZeros};

@@ -1,4 +1,4 @@
-use Rattle.std.proofs.Common.{◌∙◌, ◌-◌, List, slice_get, sym, ap, arith}
+use Rattle.std.proofs.Common.{◌∙◌, ◌-◌, slice_get, sym, ap, arith}
 use Rattle.batch_store.specs.Batches.{entries_of, values}
 use Rattle.batch_store.specs.Books.{Listing, accepted_in}
 use Rattle.log_join.proofs.PlaceLemmas.{get_behind}

@@ -1,4 +1,4 @@
-use Rattle.std.proofs.Common.{◌≡◌, ap, inl, inr, Err}
+use Rattle.std.proofs.Common.{ap, inl, inr, Err}
 use Rattle.matrix_difference.specs.declared.difference.MinusFault.{MinusFault}
 use Rattle.snap_export.specs.Minus.{fault_of}
 use Rattle.snap_export.proofs.SavedLemmas.{passed_on}

@@ -1,4 +1,4 @@
-use Rattle.std.proofs.Common.{◌≡◌, ◌∙◌, ap, Err}
+use Rattle.std.proofs.Common.{◌∙◌, ap, Err}
 use Rattle.hyper_matrix.specs.Matrix.{Matrix}
 use Rattle.matrix_difference.specs.declared.difference.MinusFault.{MinusFault}
 use Rattle.matrix_difference.specs.declared.difference.MinusFault.TheVariants.{Falls}
