@@ -1,5 +1,6 @@
 #!/usr/bin/env python3
-"""Exports snapshots by the built program: several as one text, and as a compact matrix in a folder.
+"""Exports snapshots by the built program: several as one text, what one has more than another, and as a compact matrix
+in a folder.
 
     python3 tests/exports.py PATH-TO-HHM
 
@@ -21,6 +22,7 @@ HERE = os.path.dirname(os.path.abspath(__file__))
 sys.path.insert(0, HERE)
 from program import BANNER, FAR, FIVE, MOST, NONE, ONE, SIZE, TWO, leave_room, snapshot  # noqa: E402
 from refused import EIO, Refusing, build_library  # noqa: E402
+from snap_bytes import BOOK, OWNED, UNKNOWN  # noqa: E402
 
 WAIT = 120
 NAMES = ("cols.txt", "matrix.mtx", "rows.txt")
@@ -217,6 +219,188 @@ def outputs_that_fail(folder):
         check(f"room for {room} bytes", found, (text[:room], f"hhm: output failed after {room} bytes\n", 4))
 
 
+# ---- what one has more than another
+
+
+FIRST, SECOND = (7, 1, [(0, 0, 5)]), (8, 1, [(0, 0, 3)])
+
+
+def entry_of(batch):
+    """What a folded batch leaves beside the base."""
+    client, number, cells = batch
+    return client, number, len(cells), sum(count for _, _, count in cells)
+
+
+def folded_at(batches, at, **how):
+    """A snapshot of these batches. Those before `at` are folded."""
+    counts = added(cells_of(batches[:at]))
+    past = [entry_of(batch) for batch in batches[:at]], [(*place, counts[place]) for place in sorted(counts)]
+    return snapshot(batches[at:], sum(count for _, _, count in cells_of(batches)), past=past, **how)
+
+
+def minus(new, old):
+    return run(["export", new, "--minus", old])
+
+
+def differences_are_written(folder):
+    """Each in all pairs of folds. A count that both have is left out, and a zero that is new is not."""
+    early = (7, 1, [(0, 0, 5), (2, 2, 4)])
+    late = (8, 1, [(0, 0, 3), (0, 1, 0)])
+    zero = (9, 1, [(0, 0, 0), (2, 2, 1)])
+    for name, old, new, cells in [
+        ("one batch more", [FIRST], [FIRST, SECOND], [(0, 0, 3)]),
+        ("none more", [FIRST, SECOND], [FIRST, SECOND], []),
+        ("a new zero", [early], [early, late], [(0, 0, 3), (0, 1, 0)]),
+        ("a zero where there is a count", [early], [early, zero], [(2, 2, 1)]),
+        ("all of it", [], [early, late], [(0, 0, 8), (0, 1, 0), (2, 2, 4)]),
+        ("nothing of nothing", [], [], []),
+        ("a zero is added to a zero", [late], [late, (9, 1, [(0, 1, 0), (1, 0, 2)])], [(1, 0, 2)]),
+    ]:
+        text = text_of(3, 3, added(cells))
+        for old_at in range(len(old) + 1):
+            for new_at in range(len(new) + 1):
+                paths = kept(folder, "new", folded_at(new, new_at)), kept(folder, "old", folded_at(old, old_at))
+                check(f"minus: {name}, {new_at} and {old_at} folded", minus(*paths), (text, "", 0))
+
+
+def setups_may_differ(folder):
+    """Cuts, shards, limits and versions: they are no part of a book."""
+    new = kept(folder, "new", snapshot([FIRST, SECOND], 8, cuts=(), shards=7, limit=8, most=2))
+    for version in range(1, 5):
+        past = None if version == 1 else NONE
+        old = kept(folder, f"old{version}", snapshot([FIRST], 5, past=past, version=version))
+        check(f"minus: version {version}", minus(new, old), (text_of(3, 3, {(0, 0): 3}), "", 0))
+    most = kept(folder, "most", snapshot([FIRST, (8, 1, [(1, 1, MOST - 5)])], MOST, limit=MOST))
+    check("minus: the most", minus(most, old), (text_of(3, 3, {(1, 1): MOST - 5}), "", 0))
+    far = [(7, 1, [(SIZE - 1, 0, 1), (SIZE - 1, SIZE - 1, 1)]), (8, 1, [(0, SIZE - 1, 2), (SIZE - 1, SIZE - 1, 4)])]
+    paths = [kept(folder, f"far{n}", drawn_snapshot(far[:n], SIZE)) for n in (2, 1)]
+    check("minus: far", minus(*paths), (text_of(SIZE, SIZE, {(0, SIZE - 1): 2, (SIZE - 1, SIZE - 1): 4}), "", 0))
+
+
+def books_that_differ(folder):
+    """Two known books, or two windows of one. What isn't known may be the same, and a log makes no difference."""
+    other, window = OWNED._replace(book=BOOK + 1), OWNED._replace(window=5)
+    high = OWNED._replace(book=BOOK ^ 1 << 127)
+    logged = OWNED._replace(log=1)
+    for name, new, old, is_other in [
+        ("one book", OWNED, OWNED, False), ("one with a log", logged, OWNED, False),
+        ("another book", OWNED, other, True), ("another first half", high, OWNED, True),
+        ("a window", window, OWNED, True), ("two windows", window, window._replace(window=6), True),
+        ("one window", window, window, False), ("an unknown one before", OWNED, UNKNOWN, False),
+        ("an unknown one after", UNKNOWN, other, False), ("none known", UNKNOWN, UNKNOWN, False),
+        ("an unknown one of a window", UNKNOWN._replace(window=5), OWNED, False),
+    ]:  # fmt: skip
+        paths = [
+            kept(folder, "new", snapshot([FIRST, SECOND], 8, past=NONE, origin=new)),
+            kept(folder, "old", snapshot([FIRST], 5, past=NONE, origin=old)),
+        ]
+        wanted = told("snapshot: OtherBook", 3) if is_other else (text_of(3, 3, {(0, 0): 3}), "", 0)
+        check(f"minus: {name}", minus(*paths), wanted)
+
+
+def entries_that_are_no_front(folder):
+    """The first index that differs, or the end of the later list."""
+    more = [FIRST, SECOND, (9, 1, [(1, 1, 2)])]
+    for name, new, old, at in [
+        ("the other way round", more[:1], more[:2], 1), ("none against one", [], more[:1], 0),
+        ("two less", more[:1], more, 1), ("another client", more, [(9, 1, FIRST[2])], 0),
+        ("another number", more, [FIRST, (8, 2, SECOND[2])], 1),
+        ("another total", more, [FIRST, (8, 1, [(0, 0, 4)])], 1),
+        ("another count of cells", more, [FIRST, (8, 1, [(0, 0, 3), (0, 1, 0)])], 1),
+        ("another order", more, [SECOND, FIRST], 0), ("the last one", more, [*more[:2], (9, 2, [(1, 1, 2)])], 2),
+    ]:  # fmt: skip
+        for old_at in range(len(old) + 1):
+            for new_at in range(len(new) + 1):
+                paths = kept(folder, "new", folded_at(new, new_at)), kept(folder, "old", folded_at(old, old_at))
+                wanted = told(f"snapshot: NotBefore at batch {at}", 3)
+                check(f"minus: {name}, {new_at} and {old_at} folded", minus(*paths), wanted)
+
+
+def counts_that_fall(folder):
+    """Two batches of one size under one name: the fault has the first place by row and then by column."""
+    old = [(7, 1, [(0, 1, 8), (1, 1, 1)])]
+    for name, cells, place in [
+        ("a lower count", [(0, 1, 5), (1, 1, 4)], "row 0 col 1"), ("a later one", [(0, 1, 9), (1, 1, 0)], "row 1 col 1"),
+        ("no entry", [(0, 1, 8), (2, 2, 1)], "row 1 col 1"), ("none at the end", [(0, 0, 1), (0, 1, 8)], "row 1 col 1"),
+        ("two places", [(2, 1, 8), (2, 2, 1)], "row 0 col 1"), ("by row first", [(0, 2, 8), (1, 0, 1)], "row 0 col 1"),
+    ]:  # fmt: skip
+        new = [(7, 1, cells)]
+        for behind in ([], [(8, 1, [(2, 0, 1)])]):
+            paths = kept(folder, "new", folded_at(new + behind, 0)), kept(folder, "old", folded_at(old, 1))
+            check(f"minus: {name}", minus(*paths), told(f"snapshot: Falls at {place}", 3))
+
+
+def differences_in_order(folder):
+    """Where there are two faults, the program reports the first in the order of docs/FORMATS.md."""
+    def file(name, batches, **how):
+        return kept(folder, name, folded_at(batches, 0, **how))
+
+    good, cut = file("good", [FIRST]), kept(folder, "cut", folded_at([FIRST], 0)[:-1])
+    none = os.path.join(folder, "none")
+    lower = file("lower", [(7, 1, [(0, 1, 5)])])
+    wide, other = file("wide", [SECOND], cols=4), OWNED._replace(book=3)
+    for new, old, fault, status in [
+        (none, cut, f"file: NotFound in {none}", 4), (cut, none, f"snapshot: Truncated in {cut}", 3),
+        (good, none, f"file: NotFound in {none}", 4), (good, cut, f"snapshot: Truncated in {cut}", 3),
+        (good, folder, f"snapshot: Read in {folder}", 4), (wide, good, "snapshot: DimensionsDiffer", 3),
+        (file("tall", [FIRST], rows=4), good, "snapshot: DimensionsDiffer", 3),
+        (file("book", [SECOND], cols=4, origin=OWNED), file("third", [FIRST], origin=other), "snapshot: OtherBook", 3),
+        (file("after", [(7, 1, [(0, 1, 5)]), SECOND]), file("longer", [FIRST, FIRST[:1] + (2, [(1, 1, 1)])]),
+         "snapshot: NotBefore at batch 1", 3), (lower, good, "snapshot: Falls at row 0 col 0", 3),
+    ]:  # fmt: skip
+        check(f"minus: first {fault}", minus(new, old), told(fault, status))
+    for words in [[good, "--minus"], [good, "--minus", ""], ["--minus", good], [good, good, "--minus", good],
+                  [good, "--minus", good, "--minus", good], ["--compact", folder, good, "--minus", good]]:  # fmt: skip
+        output, error, status = run(["export", *words])
+        check(f"minus: words {words}", (output, error != "", status), ("", True, 2))
+    new = file("new", [FIRST, SECOND])
+    text = text_of(3, 3, {(0, 0): 3})
+    for room in (0, 50):
+        with tempfile.TemporaryFile() as output:
+            ended = subprocess.run([PROGRAM, "export", new, "--minus", good], stdout=output, stderr=subprocess.PIPE,
+                                   timeout=WAIT, preexec_fn=lambda room=room: leave_room(room))  # fmt: skip
+            output.seek(0)
+            found = output.read().decode(), ended.stderr.decode(), ended.returncode
+        check(f"minus: room for {room} bytes", found, (text[:room], f"hhm: output failed after {room} bytes\n", 4))
+
+
+def drawn_book(dice, size):
+    """A book of some batches, and where the earlier file and the two folds end."""
+    batches = []
+    for number in range(dice.randrange(1, 9)):
+        cells = [(dice.randrange(size), dice.randrange(size), dice.randrange(4)) for _ in range(dice.randrange(1, 30))]
+        counts = added(cells)
+        batches.append((dice.randrange(3), number, [(*place, counts[place]) for place in sorted(counts)]))
+    at = dice.randrange(len(batches) + 1)
+    return batches, at, dice.randrange(len(batches) + 1), dice.randrange(at + 1)
+
+
+def wanted_difference(later, earlier):
+    """What the sum of the later batches has more at each place, by a loop over dictionaries."""
+    new, old = added(cells_of(later)), added(cells_of(earlier))
+    more = {place: count - old.get(place, 0) for place, count in new.items()}
+    return {place: count for place, count in more.items() if place not in old or count != 0}
+
+
+def drawn_differences(folder):
+    """200 books, with folds between the two files, and sums that add up to the later one's."""
+    dice = random.Random(2026)
+    wide = {"limit": MOST, "most": 100}
+    for draw in range(200):
+        size = dice.choice([3, 6, 1 << 32, SIZE])
+        batches, at, new_at, old_at = drawn_book(dice, min(size, 6))
+        wide |= {"rows": size, "cols": size}
+        new = kept(folder, "new", folded_at(batches, new_at, **wide))
+        old = kept(folder, "old", folded_at(batches[:at], old_at, **wide))
+        more = wanted_difference(batches, batches[:at])
+        check(f"minus: book {draw}", minus(new, old), (text_of(size, size, more), "", 0))
+        both = added(cells_of(batches[:at]), [(*place, count) for place, count in more.items()])
+        check(f"minus: book {draw} adds up", both, added(cells_of(batches)))
+        if at < len(batches):
+            wanted = told(f"snapshot: NotBefore at batch {at}", 3)
+            check(f"minus: book {draw} the other way round", minus(old, new), wanted)
+
+
 # ---- a compact matrix
 
 
@@ -393,7 +577,9 @@ def main():
     PROGRAM = os.path.abspath(sys.argv[1])
     for tried in [
         several_are_summed, drawn_ones_are_summed, totals_up_to_the_last, first_faults_are_told, words_are_refused,
-        outputs_that_fail, worked_matrices, other_files_stay, folders_that_cant_be, a_full_disk, refused_calls, other_tools,
+        outputs_that_fail, differences_are_written, setups_may_differ, books_that_differ, entries_that_are_no_front,
+        counts_that_fall, differences_in_order, drawn_differences, worked_matrices, other_files_stay,
+        folders_that_cant_be, a_full_disk, refused_calls, other_tools,
     ]:  # fmt: skip
         with tempfile.TemporaryDirectory() as folder:
             tried(folder)

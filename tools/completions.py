@@ -1,7 +1,7 @@
 """What completes a program's words in bash, zsh and fish, made of what its own `--help` says."""
 import re
 
-FILE = re.compile(r"PATH|FILE|DIR|OUT")
+FILE = re.compile(r"PATH|FILE|DIR|OUT|^OLD$")
 
 
 BASH = """\

@@ -12,8 +12,11 @@ use Rattle.hhm.specs.declared.numbers.ListFault.TheVariants as list
 use Rattle.hhm.specs.declared.report.Fault.{Fault}
 use Rattle.hhm.specs.declared.report.Fault.TheVariants.{BadNumber, BadPath, BadLog, BadOut, Exists, LogBusy, NoRandom}
 use Rattle.hhm.specs.declared.report.Fault.TheVariants.{SamePath, Setup, Sum, Texts, Check, Fold, Make, Export}
+use Rattle.hhm.specs.declared.report.Fault.TheVariants.{Difference}
 use Rattle.snap_export.specs.declared.fault.ExportFault.{ExportFault}
 use Rattle.snap_export.specs.declared.fault.ExportFault.TheVariants as export
+use Rattle.snap_export.specs.declared.minus_fault.DifferenceFault.{DifferenceFault}
+use Rattle.snap_export.specs.declared.minus_fault.DifferenceFault.TheVariants as difference
 use Rattle.snap_report.specs.declared.fault.CheckFault.{CheckFault}
 use Rattle.snap_report.specs.declared.fault.CheckFault.TheVariants as check
 use Rattle.snap_report.specs.declared.making.MakeFault.{MakeFault}
@@ -109,6 +112,16 @@ export_status export.Memory = 5
 export_status (export.Output fault) = 4
 export_status (export.Save fault) = 4
 
+abbrev pub difference_status : DifferenceFault → ℕ
+difference_status (difference.New fault) = file_status fault
+difference_status (difference.Old fault) = file_status fault
+difference_status difference.OtherBook = 3
+difference_status difference.DimensionsDiffer = 3
+difference_status (difference.NotBefore at) = 3
+difference_status (difference.Falls row col) = 3
+difference_status difference.Memory = 5
+difference_status (difference.Output fault) = 4
+
 abbrev pub fault_status : Fault → ℕ
 fault_status BadNumber = 2
 fault_status BadPath = 2
@@ -125,3 +138,4 @@ fault_status (Check fault) = check_status fault
 fault_status (Fold fault) = fold_status fault
 fault_status (Make fault) = make_status fault
 fault_status (Export fault) = export_status fault
+fault_status (Difference fault) = difference_status fault

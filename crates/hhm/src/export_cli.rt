@@ -24,6 +24,11 @@ made where it isn't there:
 Of a sum without an entry the matrix is 1 by 1, and the others are empty. Other
 files of DIR stay, and files of these names are replaced once all are whole.
 
+With --minus it writes what one snapshot, PATH, has more than an earlier one of the
+same book, OLD: where OLD has no entry the entry of PATH, and where it has one what
+the count has risen by, if it has. The batches of OLD are the first of PATH, folded
+or not. It is a text of counts by the time of their acceptance.
+
 Nothing is written unless all snapshots were read without a fault. A fault is one
 line on standard error, the first in the order of the files; where several are
 named it has ' in FILE' behind it, if it is of one:
@@ -31,6 +36,9 @@ named it has ' in FILE' behind it, if it is of one:
   hhm: file: NotFound, OpenFailed  status 4
   hhm: snapshot: KIND              status 3 (KIND Read: 4)
   hhm: snapshot: DimensionsDiffer  status 3
+  hhm: snapshot: OtherBook         status 3 (of --minus, as the next two)
+  hhm: snapshot: NotBefore at batch N      status 3
+  hhm: snapshot: Falls at row R col C      status 3
   hhm: sum: SumTooLarge            status 3
   hhm: file: Create, Write, Sync, Rename  status 4
   hhm: output failed after N bytes status 4
@@ -43,6 +51,12 @@ pub fn export_command<'a>(alloc: Global) -> Result<Command<'a>, AllocError> {
         .value_name("DIR")
         .value_parser(ValueParser::NonEmptyString)
         .help("Save the sum in this folder, without empty rows and columns");
+    let minus = Arg::new(alloc, "minus")
+        .long("minus")
+        .value_name("OLD")
+        .value_parser(ValueParser::NonEmptyString)
+        .help("Write what PATH has more than this earlier snapshot of its book")
+        .conflicts_with("compact")?;
     let path = Arg::new(alloc, "path")
         .value_name("PATH")
         .required(true)
@@ -54,5 +68,6 @@ pub fn export_command<'a>(alloc: Global) -> Result<Command<'a>, AllocError> {
         .about(EXPORT_ABOUT)
         .after_help(EXPORT_HELP)
         .arg(compact)?
+        .arg(minus)?
         .arg(path)
 }

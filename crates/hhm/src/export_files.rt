@@ -4,7 +4,7 @@ ghost use Rattle.std.specs.Prelude.{⊤};
 use crate::report::Fault;
 use crate::sum_files::Place;
 use progress::Watch;
-use snap_export::{ExportFault, SnapshotFiles};
+use snap_export::{DifferenceFault, ExportFault, SnapshotFiles};
 use snap_file::{FileFault, Snapshot, load_watched};
 use std::alloc::Global;
 use std::rt::Files;
@@ -51,6 +51,8 @@ pub fn file_of<'a>(fault: &Fault, names: &[&'a str]) -> Place<'a> {
     let file = match fault {
         Fault::Export(ExportFault::File(file, _)) => *file,
         Fault::Export(ExportFault::DimensionsDiffer(file)) => *file,
+        Fault::Difference(DifferenceFault::New(_)) => 0,
+        Fault::Difference(DifferenceFault::Old(_)) => 1,
         _ => return Place::Nowhere,
     };
     match names.get(file as usize) {

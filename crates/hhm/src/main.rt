@@ -43,7 +43,7 @@ use clap::error::ErrorKind;
 use clap::{ArgMatches, Error};
 use mm_sum::{run_sum, run_sum_of};
 use progress::{Entries, ProgressLine, Watched};
-use snap_export::{NamedFolder, run_compact, run_export_of};
+use snap_export::{NamedFolder, run_compact, run_export_minus, run_export_of};
 use snap_file::{FileFault, Identity, LockedFile, NamedFile, PathLock, lock, lock_existing};
 use snap_query::{run_degrees, run_list, run_top};
 use snap_report::{
@@ -207,16 +207,24 @@ fn sum_texts(
     Ok(())
 }
 
-/// Exports the snapshots that are named, and says a fault in one line on standard error, with the file that it is of
-/// where there are several. How far the reading has come is said on a terminal.
+/// Exports the snapshots that are named, or what the one that is named has more than another.
 fn run_export_word(rt: &HostRuntime, given: &ArgMatches) -> ExitCode {
     let names = given.get_strs("path").unwrap_or(&[]);
-    let mut line = progress_line(rt, rt.stderr().is_terminal(), Entries::Cells);
-    let outcome = match given.get_str("compact") {
-        Some(folder) => save_compact(rt, names, folder, &mut line),
-        None => export(rt, names, &mut line),
-    };
-    clear(&mut line);
+    match (given.get_str("minus"), names) {
+        (None, _) => end_export(rt, names, export_named(rt, given, names)),
+        (Some(old), [new]) => {
+            let both = [*new, old];
+            end_export(rt, &both, export_minus(rt, &both))
+        }
+        (Some(_), _) => {
+            let _ = eprintln!(rt; "error: the argument '--minus <OLD>' takes one PATH beside it");
+            ExitCode::from(2)
+        }
+    }
+}
+
+/// Says a fault of an export in one line on standard error, with the file that it is of where there are several.
+fn end_export(rt: &HostRuntime, names: &[&str], outcome: Result<(), Fault>) -> ExitCode {
     match outcome {
         Ok(()) => ExitCode::SUCCESS,
         Err(fault) => {
@@ -225,6 +233,29 @@ fn run_export_word(rt: &HostRuntime, given: &ArgMatches) -> ExitCode {
             fault.exit_code()
         }
     }
+}
+
+/// Exports the sum of the snapshots in these files. How far the reading has come is said on a terminal.
+fn export_named(rt: &HostRuntime, given: &ArgMatches, names: &[&str]) -> Result<(), Fault> {
+    let mut line = progress_line(rt, rt.stderr().is_terminal(), Entries::Cells);
+    let outcome = match given.get_str("compact") {
+        Some(folder) => save_compact(rt, names, folder, &mut line),
+        None => export(rt, names, &mut line),
+    };
+    clear(&mut line);
+    outcome
+}
+
+/// Writes what the snapshot in the first file has more than the one in the second to standard output. How far the
+/// reading has come is said on a terminal.
+fn export_minus(rt: &HostRuntime, names: &[&str]) -> Result<(), Fault> {
+    let mut out = Counted::new(rt.stdout());
+    let mut line = progress_line(rt, rt.stderr().is_terminal(), Entries::Cells);
+    let mut files = NamedSnapshots::new(rt, names, &mut line);
+    let outcome = run_export_minus(rt.alloc(), &mut files, &mut out);
+    clear(&mut line);
+    outcome?;
+    Ok(())
 }
 
 /// Writes the sum of the snapshots in these files to standard output.

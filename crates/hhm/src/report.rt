@@ -1,9 +1,9 @@
 //! What the program says of a fault, and the status that it ends with.
 ghost use Rattle.std.specs.Prelude.{◌≡◌};
 ghost use Rattle.hhm.specs.Reports.{check_status, export_status, fault_of_list, fault_status, make_status};
-ghost use Rattle.hhm.specs.Reports.{log_kind_status, texts_status};
+ghost use Rattle.hhm.specs.Reports.{difference_status, file_status, log_kind_status, texts_status};
 ghost use Rattle.mm_sum.specs.declared.fault.SumFault.TheVariants.{Memory, Output};
-ghost use Rattle.hhm.specs.declared.report.Fault.TheVariants.{Setup, Sum, Texts, Check, Fold, Make, Export};
+ghost use Rattle.hhm.specs.declared.report.Fault.TheVariants.{Setup, Sum, Texts, Check, Fold, Make, Export, Difference};
 
 use crate::numbers::ListFault;
 use batch_store::SetupFault;
@@ -11,7 +11,7 @@ use byte_io::WriteFault;
 use log_blocks::LogKind;
 use mm_sum::{SumFault, TextsFault};
 use mm_text::{MmFault, MmKind};
-use snap_export::ExportFault;
+use snap_export::{DifferenceFault, ExportFault};
 use snap_file::{FileFault, SaveFault, SnapFault};
 use snap_report::{CheckFault, FoldFault, LogFileFault, MakeFault};
 use std::alloc::AllocError;
@@ -66,6 +66,9 @@ pub enum Fault {
     /// `export` of several snapshots wrote no text, or not all of it, or it saved no compact matrix.
     #[error(transparent)]
     Export(ExportFault),
+    /// `export` wrote no difference of two snapshots, or not all of it.
+    #[error(transparent)]
+    Difference(DifferenceFault),
 }
 
 impl From<SumFault> for Fault {
@@ -121,6 +124,14 @@ impl From<ExportFault> for Fault {
 
     fn from(fault: ExportFault) -> Fault {
         Fault::Export(fault)
+    }
+}
+
+impl From<DifferenceFault> for Fault {
+    ghost from_gives = { λ fault e. e ≡ Difference fault };
+
+    fn from(fault: DifferenceFault) -> Fault {
+        Fault::Difference(fault)
     }
 }
 
@@ -200,6 +211,33 @@ fn export_status(fault: ExportFault) -> u8
     }
 }
 
+/// The status of a fault of the difference of two snapshots.
+fn difference_status(fault: DifferenceFault) -> u8
+    ensures { result ≡ difference_status fault }
+{
+    match fault {
+        DifferenceFault::New(fault) => file_status(fault),
+        DifferenceFault::Old(fault) => file_status(fault),
+        DifferenceFault::OtherBook => 3,
+        DifferenceFault::DimensionsDiffer => 3,
+        DifferenceFault::NotBefore(_) => 3,
+        DifferenceFault::Falls(..) => 3,
+        DifferenceFault::Memory => 5,
+        DifferenceFault::Output(_) => 4,
+    }
+}
+
+/// The status of a fault of a snapshot's file.
+fn file_status(fault: FileFault) -> u8
+    ensures { result ≡ file_status fault }
+{
+    match fault {
+        FileFault::Snap(SnapFault::Read) => 4,
+        FileFault::Snap(_) => 3,
+        _ => 4,
+    }
+}
+
 /// The status of a fault of `check`.
 fn check_status(fault: CheckFault) -> u8
     ensures { result ≡ check_status fault }
@@ -272,6 +310,7 @@ impl Fault {
             Fault::Fold(FoldFault::Save(_)) => 4,
             Fault::Fold(FoldFault::Output(_)) => 4,
             Fault::Export(fault) => export_status(fault),
+            Fault::Difference(fault) => difference_status(fault),
         }
     }
 

@@ -4,3 +4,4 @@ pub mod LabelLemmas
 pub mod CompactLemmas
 pub mod SavedLemmas
 pub mod LawLemmas
+pub mod MinusLemmas

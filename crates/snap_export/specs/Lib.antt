@@ -5,3 +5,4 @@ pub mod Compact
 pub mod Saved
 pub mod Files
 pub mod Told
+pub mod Minus

@@ -66,8 +66,13 @@ fn fits_beside(sum: &Hyper, more: u64) -> bool
     sum.total().checked_add(more).is_some()
 }
 
-// A matrix with all cells of a list of batches added.
-fn with_list(alloc: Global, m: Hyper, setup: &Setup, list: &BookList) -> Result<Hyper, AllocError>
+/// A matrix with all cells of a list of batches added.
+pub fn with_list(
+    alloc: Global,
+    m: Hyper,
+    setup: &Setup,
+    list: &BookList,
+) -> Result<Hyper, AllocError>
     requires accepted { AreAccepted setup.now (accepted_in list.now) }
     requires based { HasBase setup.now list.now }
     requires rows { setup.now.rows ≡ m.rows }
