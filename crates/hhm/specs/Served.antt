@@ -1,14 +1,13 @@
 -- What a server says of its settings before it does anything.
 --     IsJudged s r    each of these refusals is the answer exactly where the settings have its fault, and none before it
 use Rattle.std.specs.Prelude.{◌≡◌, ◌≤◌, ◌↔◌, None, Result, Err}
-use Rattle.plain_engine.specs.declared.status.Status.{Status}
 use Rattle.socket_server.specs.Starts.{IsOnePath, IsReserved}
 use Rattle.socket_server.specs.declared.fault.ServerFault.{ServerFault}
 use Rattle.socket_server.specs.declared.fault.ServerFault.TheVariants.{BadWorkers, NoAddress, SamePath}
 use Rattle.socket_server.specs.declared.fault.ServerFault.TheVariants.{BadSnapshotPath, BadLogPath, BadCompactors}
 use Rattle.socket_server.specs.declared.settings.Settings.{Settings}
 
-pub record IsJudged (s : Settings) (r : Result Status ServerFault) : Type 0 where
+pub record IsJudged {Y : Type 0} (s : Settings) (r : Result Y ServerFault) : Type 0 where
   pub workers : (r ≡ Err BadWorkers) ↔ ((1 ≤ s.workers) × (s.workers ≤ 32) → ⊥)
   pub nowhere : (r ≡ Err NoAddress) ↔ ((1 ≤ s.workers) × (s.workers ≤ 32) × (s.tcp ≡ None) × (s.unix ≡ None))
   pub snapshot_path : (r ≡ Err BadSnapshotPath)

@@ -11,12 +11,12 @@ ghost use Rattle.socket_server.specs.Starts.{IsLocked, StartsFrom};
 
 use crate::serve::ServeOrder;
 use byte_io::Sink;
-use event_log::{Event, EventLog, FileSizes, tell_events};
+use event_log::{Event, FileSizes, tell_events};
 use locked_engine::Status;
 use log_desk::Log;
 use server_counters::Machine;
 use session_pool::{Disk, LogPlace};
-use socket_server::{FileLog, Host, LogHost, ServerFault, Settings, run_server};
+use socket_server::{FileLog, Host, LogHost, ServerFault, run_server};
 use std::alloc::Global;
 use std::io::Eprint;
 use std::net::{Net, TcpListener, TcpStream};
@@ -25,50 +25,6 @@ use std::sync::{Arc, Wait};
 use std::thread;
 use std::thread::Threads;
 use std::time::Clock;
-
-// Serves by these settings, and notes how that ends.
-fn serve_noted<R: Wait + Clock, F: FnOnce(Settings) -> Result<Status, ServerFault>>(
-    rt: &R,
-    settings: Settings,
-    events: &EventLog,
-    serve: F,
-) -> Result<Status, ServerFault>
-    requires { F.pre serve settings }
-    ensures { F.post serve settings result }
-{
-    let outcome = serve(settings);
-    if let Ok(Status { batches, total }) = outcome {
-        events.note(rt, Event::Stopped { batches, total });
-    }
-    events.end(rt);
-    outcome
-}
-
-// Serves by these very settings, whatever `serve` makes of them. Where what happens is noted, a thread reports it beside,
-// or where there is none it is reported at the end.
-fn serve_told<
-    R: Threads + Wait + Clock + Eprint + FileSizes + Sync,
-    F: FnOnce(Settings) -> Result<Status, ServerFault>,
->(rt: &R, settings: Settings, serve: F) -> Result<Status, ServerFault>
-    requires { F.pre serve settings }
-    ensures { F.post serve settings result ⊎ (result ≡ Err ServerFault.Memory) }
-{
-    let copy = match &settings.events {
-        Some(events) => Arc::try_clone(events),
-        None => return serve(settings),
-    };
-    let Ok(events) = copy else {
-        return Err(ServerFault::Memory);
-    };
-    let ((), outcome) = thread::join(
-        rt,
-        || tell_events(rt, &events),
-        ||
-            requires { F.pre serve settings }
-        { serve_noted(rt, settings, &events, serve) },
-    );
-    outcome
-}
 
 /// Runs a server as it is ordered. Where what happens is noted, a thread reports it beside, or where there is none it is
 /// reported at the end. The clauses are those of `run_server`, of the order's settings.
@@ -103,11 +59,27 @@ pub fn run_told<
         ⟦<FileLog as Log>⟧.was_synced ⟦<FileLog as Log>⟧.has_failed ⟦<FileLog as Log>⟧.was_full t.snapshot v
         (is_some t.log) a s)) }
 {
-    serve_told(
+    let settings = order.into_settings();
+    let copy = match &settings.events {
+        Some(events) => Arc::try_clone(events),
+        None => return run_server::<FileLog, R, W>(rt, alloc, settings, out),
+    };
+    let Ok(events) = copy else {
+        return Err(ServerFault::Memory);
+    };
+    let ((), outcome) = thread::join(
         rt,
-        order.into_settings(),
-        |settings|
+        || tell_events(rt, &events),
+        ||
             requires { W.failure_count out.now + 1 < 2 ^ 64 }
-        { run_server::<FileLog, R, W>(rt, alloc, settings, out) },
-    )
+        {
+            let outcome = run_server::<FileLog, R, W>(rt, alloc, settings, out);
+            if let Ok(Status { batches, total }) = outcome {
+                events.note(rt, Event::Stopped { batches, total });
+            }
+            events.end(rt);
+            outcome
+        },
+    );
+    outcome
 }
