@@ -136,6 +136,7 @@ def runs(folder):
         yield Run(name, ["check", path], b"", line.encode(), r"hhm: snapshot: Read\n")
     yield logged_check(folder)
     yield several_exported(folder)
+    yield difference_exported(folder)
 
 
 def several_exported(folder):
@@ -154,6 +155,27 @@ def several_exported(folder):
     output = text_of(11, 11, summed(lists[0] + lists[1] + lists[2]))
     fault = rf"hhm: snapshot: Read in ({'|'.join(re.escape(path) for path in paths)})\n"
     return Run("export of three snapshots", ["export", *paths], b"", output, fault)
+
+
+def difference_exported(folder):
+    """What a snapshot has more than an earlier one, of which a part is folded."""
+    lists = [summed(spread(count, 11)) for count in (40, 11, 30)]
+    totals = [sum(count for _, _, count in cells) for cells in lists]
+    batches = [(7, number, cells) for number, cells in enumerate(lists)]
+    past = [(7, 0, len(lists[0]), totals[0])], lists[0]
+    paths = [os.path.join(folder, f"minus_{name}") for name in ("new", "old")]
+    for path, count in zip(paths, (3, 2)):
+        with open(path, "wb") as file:
+            held = snapshot(batches[1:count], sum(totals[:count]), 11, 11, limit=10**9, past=past)
+            file.write(held)
+    output = text_of(11, 11, [cell for cell in lists[2] if is_more(cell, lists[0] + lists[1])])
+    fault = rf"hhm: snapshot: Read in ({'|'.join(re.escape(path) for path in paths)})\n"
+    return Run("export of a difference", ["export", paths[0], "--minus", paths[1]], b"", output, fault)
+
+
+def is_more(cell, before):
+    """Whether a cell is in the difference: a count that is not 0, or a place that has no entry yet."""
+    return cell[2] > 0 or cell[:2] not in {(row, col) for row, col, _ in before}
 
 
 def logged_check(folder):
