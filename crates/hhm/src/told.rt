@@ -16,7 +16,7 @@ use locked_engine::Status;
 use log_desk::Log;
 use server_counters::Machine;
 use session_pool::{Disk, LogPlace};
-use socket_server::{FileLog, Host, LogHost, ServerFault, run_server};
+use socket_server::{FileLog, Host, LogHost, ServerFault, Settings, run_server};
 use std::alloc::Global;
 use std::io::Eprint;
 use std::net::{Net, TcpListener, TcpStream};
@@ -25,6 +25,77 @@ use std::sync::{Arc, Wait};
 use std::thread;
 use std::thread::Threads;
 use std::time::Clock;
+
+// Runs a server by these settings, with logs of this type. Where what happens is noted, a thread reports it beside, or
+// where there is none it is reported at the end.
+fn serve_told<
+    L: Log + Send,
+    R: Threads
+        + Wait
+        + Clock
+        + Machine
+        + Disk
+        + LogPlace<L>
+        + Host
+        + LogHost<L>
+        + RandomSource
+        + Eprint
+        + FileSizes
+        + Net<Listener = TcpListener, Stream = TcpStream>
+        + Sync,
+    W: Sink,
+>(rt: &R, alloc: Global, settings: Settings, out: &mut W) -> Result<Status, ServerFault>
+    requires { W.failure_count out.old + 1 < 2 ^ 64 }
+    ensures judged { IsJudged settings result ⊎ (result ≡ Err ServerFault.Memory) }
+    ensures locked { IfOk result (λ _. IsLocked R.locks rt.now settings.snapshot settings.must_save) }
+    ensures log_locked { IfOk result (λ _. IsLocked R.locks rt.now settings.log true) }
+    ensures ended { let t = settings in IfOk result (λ s. (v : Setting) × (a : Accepted) × (i : Identity)
+        × StartsFrom R.loads R.log_heads R.log_starts R.saves R.begins R.names rt.now t.snapshot t.log t.must_load
+        t.numbers v i a × HasEnded (of_origin R.saves (origin i (is_some t.log))) rt.now
+        L.was_synced L.has_failed L.was_full t.snapshot v
+        (is_some t.log) a (stopped s 0)) }
+    ensures short { let t = settings in IfErr result (IsShort (λ s. (v : Setting) × (a : Accepted)
+        × (i : Identity) × StartsFrom R.loads R.log_heads R.log_starts R.saves R.begins R.names rt.now t.snapshot t.log
+        t.must_load t.numbers v i a × HasEnded (of_origin R.saves (origin i (is_some t.log))) rt.now
+        L.was_synced L.has_failed L.was_full t.snapshot v
+        (is_some t.log) a s)) }
+{
+    let copy = match &settings.events {
+        Some(events) => Arc::try_clone(events),
+        None => return run_server::<L, R, W>(rt, alloc, settings, out),
+    };
+    let Ok(events) = copy else {
+        return Err(ServerFault::Memory);
+    };
+    let ((), outcome) = thread::join(
+        rt,
+        || tell_events(rt, &events),
+        || -> Result<Status, ServerFault>
+            requires { W.failure_count out.now + 1 < 2 ^ 64 }
+            ensures judged { IsJudged settings result ⊎ (result ≡ Err ServerFault.Memory) }
+            ensures locked { IfOk result (λ _. IsLocked R.locks rt.entry.now settings.snapshot settings.must_save) }
+            ensures log_locked { IfOk result (λ _. IsLocked R.locks rt.entry.now settings.log true) }
+            ensures ended { let t = settings in IfOk result (λ s. (v : Setting) × (a : Accepted) × (i : Identity)
+                × StartsFrom R.loads R.log_heads R.log_starts R.saves R.begins R.names rt.entry.now t.snapshot t.log t.must_load
+                t.numbers v i a × HasEnded (of_origin R.saves (origin i (is_some t.log))) rt.entry.now
+                L.was_synced L.has_failed L.was_full t.snapshot v
+                (is_some t.log) a (stopped s 0)) }
+            ensures short { let t = settings in IfErr result (IsShort (λ s. (v : Setting) × (a : Accepted)
+                × (i : Identity) × StartsFrom R.loads R.log_heads R.log_starts R.saves R.begins R.names rt.entry.now t.snapshot t.log
+                t.must_load t.numbers v i a × HasEnded (of_origin R.saves (origin i (is_some t.log))) rt.entry.now
+                L.was_synced L.has_failed L.was_full t.snapshot v
+                (is_some t.log) a s)) }
+        {
+            let outcome = run_server::<L, R, W>(rt, alloc, settings, out);
+            if let Ok(Status { batches, total }) = outcome {
+                events.note(rt, Event::Stopped { batches, total });
+            }
+            events.end(rt);
+            outcome
+        },
+    );
+    outcome
+}
 
 /// Runs a server as it is ordered. Where what happens is noted, a thread reports it beside, or where there is none it is
 /// reported at the end. The clauses are those of `run_server`, of the order's settings.
@@ -59,27 +130,5 @@ pub fn run_told<
         ⟦<FileLog as Log>⟧.was_synced ⟦<FileLog as Log>⟧.has_failed ⟦<FileLog as Log>⟧.was_full t.snapshot v
         (is_some t.log) a s)) }
 {
-    let settings = order.into_settings();
-    let copy = match &settings.events {
-        Some(events) => Arc::try_clone(events),
-        None => return run_server::<FileLog, R, W>(rt, alloc, settings, out),
-    };
-    let Ok(events) = copy else {
-        return Err(ServerFault::Memory);
-    };
-    let ((), outcome) = thread::join(
-        rt,
-        || tell_events(rt, &events),
-        ||
-            requires { W.failure_count out.now + 1 < 2 ^ 64 }
-        {
-            let outcome = run_server::<FileLog, R, W>(rt, alloc, settings, out);
-            if let Ok(Status { batches, total }) = outcome {
-                events.note(rt, Event::Stopped { batches, total });
-            }
-            events.end(rt);
-            outcome
-        },
-    );
-    outcome
+    serve_told::<FileLog, R, W>(rt, alloc, order.into_settings(), out)
 }
