@@ -8,10 +8,9 @@ use Rattle.std.proofs.lemmas.List.{map-append}
 use Rattle.std.proofs.lemmas.Option.{same_Some}
 use Rattle.std.specs.List.{list_any}
 use Rattle.std.specs.FinMap.{entries, len, len-entries}
-use Rattle.hyper_rows.specs.Parts.{part_entries}
+use Rattle.hyper_matrix.specs.Parts.{part_entries, parts_below}
 use Rattle.hyper_matrix.specs.Counts.{Place, Counts, part, in_part}
 use Rattle.hyper_matrix.specs.Matrix.{Matrix}
-use Rattle.hyper_matrix.specs.Parts.{parts_below}
 use Rattle.hyper_matrix.proofs.PartLaws.{entries-part}
 use Rattle.batch_store.specs.Batches.{Submission}
 use Rattle.batch_store.specs.Parts.{concerns}

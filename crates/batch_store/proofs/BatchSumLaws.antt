@@ -4,9 +4,8 @@ use Rattle.std.specs.FinMap.{empty, entries}
 use Rattle.cells.specs.declared.cell.Cell.{Cell}
 use Rattle.hyper_matrix.specs.Cells.{entry_of, built_of}
 use Rattle.hyper_matrix.specs.Counts.{Counts, built, ewise_add}
-use Rattle.hyper_matrix.proofs.CountLaws.{ewise_add_assoc}
+use Rattle.hyper_matrix.proofs.CountLaws.{ewise_add_assoc, built-append}
 use Rattle.hyper_matrix.proofs.PartLaws.{built-entries}
-use Rattle.hyper_rows.proofs.CountLaws.{built-append}
 
 pub built-none : built_of [] ≡ empty
 unfolding built

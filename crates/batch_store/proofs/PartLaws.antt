@@ -4,7 +4,7 @@ use Rattle.std.proofs.Common.{◌≡◌, ℕ, suc, ◌+◌, ◌<◌, ◌≤◌, 
 use Rattle.std.proofs.Common.{ap, arith}
 use Rattle.std.specs.List.{list_any}
 use Rattle.std.specs.FinMap.{entries, empty}
-use Rattle.hyper_rows.specs.Parts.{part_entries}
+use Rattle.hyper_matrix.specs.Parts.{part_entries}
 use Rattle.hyper_matrix.specs.Counts.{Place, Counts, count_sum, total, built, ewise_add, part, parts, in_part}
 use Rattle.hyper_matrix.proofs.CountLaws.{parts_whole, total-ewise_add, total-empty}
 use Rattle.hyper_matrix.proofs.PartLaws.{entries-part, built-entries, total-part, total-entries, part_sum-le}

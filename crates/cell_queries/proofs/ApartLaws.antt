@@ -10,9 +10,9 @@ use Rattle.std.proofs.lemmas.Bool.{cases_Bool, cases_eq, false≢true, lt-ltb, l
 use Rattle.std.proofs.lemmas.List.Elements.{All-append, All-from_recursion, recursion_from_All}
 use Rattle.std.proofs.lemmas.List.Sorted.{IsPermutation-filter_both, IsPermutation-sym, All-permutation}
 use Rattle.std.specs.Ordering.{eq_by_cmp}
-use Rattle.hyper_rows.specs.Counts.{Place, place_cmp, Counts, plus, ewise_add}
-use Rattle.hyper_rows.proofs.CountLaws.{exact_places, same_counts, get-ewise_add, plus-none, ewise_add_comm, tied}
-use Rattle.hyper_rows.proofs.CountLaws.{T_second}
+use Rattle.hyper_matrix.specs.Counts.{Place, place_cmp, Counts, plus, ewise_add}
+use Rattle.hyper_matrix.proofs.CountLaws.{exact_places, same_counts, get-ewise_add, plus-none, ewise_add_comm, tied}
+use Rattle.hyper_matrix.proofs.CountLaws.{T_second}
 use Rattle.cell_queries.specs.declared.tally.RowTally.{RowTally}
 use Rattle.cell_queries.specs.declared.top.TopBy.{TopBy}
 use Rattle.cell_queries.specs.Heaps.{Leading, AreLed}

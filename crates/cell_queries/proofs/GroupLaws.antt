@@ -7,14 +7,14 @@ use Rattle.std.proofs.lemmas.Bool.{lt-leb, le-leb, and_from, and_left, cases_lt,
 use Rattle.std.proofs.lemmas.List.{append-nil}
 use Rattle.std.proofs.Math.Pow.{shr_mono}
 use Rattle.cells.specs.declared.cell.Cell.{Cell}
-use Rattle.hyper_rows.specs.Cells.{entry_of}
-use Rattle.hyper_rows.specs.Counts.{Place, place_cmp}
-use Rattle.hyper_rows.specs.Places.{Less, AllPlaces}
-use Rattle.hyper_rows.specs.Search.{is_before, cells_from}
-use Rattle.hyper_rows.proofs.CountLaws.{T_first, T_second}
-use Rattle.hyper_rows.proofs.PlaceOrderLaws.{all_map, to_all, place_less}
-use Rattle.hyper_rows.proofs.SearchLaws.{before_is, before_row}
-use Rattle.hyper_rows.proofs.SkipLaws.{sorted_from}
+use Rattle.hyper_matrix.specs.Cells.{entry_of}
+use Rattle.hyper_matrix.specs.Counts.{Place, place_cmp}
+use Rattle.hyper_matrix.specs.Places.{Less, AllPlaces}
+use Rattle.hyper_matrix.specs.Search.{is_before, cells_from}
+use Rattle.hyper_matrix.proofs.CountLaws.{T_first, T_second}
+use Rattle.hyper_matrix.proofs.PlaceOrderLaws.{all_map, to_all, place_less}
+use Rattle.hyper_matrix.proofs.LookUpLaws.{before_is, before_row}
+use Rattle.hyper_matrix.proofs.SkipLaws.{sorted_from}
 use Rattle.cell_queries.specs.declared.groups.RowGroups.{RowGroups}
 use Rattle.cell_queries.specs.declared.range.Span.{Span}
 use Rattle.cell_queries.specs.declared.tally.RowTally.{RowTally}

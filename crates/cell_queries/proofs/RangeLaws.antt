@@ -6,15 +6,15 @@ use Rattle.std.specs.Ordering.{is_lt}
 use Rattle.std.specs.FinMap.{is_sorted}
 use Rattle.std.proofs.lemmas.Bool.{lt-leb, leb-true, cases_lt, false≢true, and_left, and_right}
 use Rattle.std.proofs.lemmas.List.{take-append-le, take_all, append-nil}
-use Rattle.hyper_rows.specs.Counts.{Place, place_cmp}
-use Rattle.hyper_rows.specs.Places.{Less, AllPlaces}
-use Rattle.hyper_rows.proofs.CountLaws.{T_first, T_second}
-use Rattle.hyper_rows.proofs.PlaceOrderLaws.{all_map, to_all, place_less}
+use Rattle.hyper_matrix.specs.Counts.{Place, place_cmp}
+use Rattle.hyper_matrix.specs.Places.{Less, AllPlaces}
+use Rattle.hyper_matrix.proofs.CountLaws.{T_first, T_second}
+use Rattle.hyper_matrix.proofs.PlaceOrderLaws.{all_map, to_all, place_less}
 use Rattle.cell_queries.specs.declared.range.Span.{Span}
 use Rattle.cell_queries.specs.declared.range.CellRange.{CellRange}
-use Rattle.hyper_rows.specs.Search.{is_before, cells_from}
-use Rattle.hyper_rows.proofs.SearchLaws.{not_before_row, not_before_same}
-use Rattle.hyper_rows.proofs.SkipLaws.{sorted_from, fewer_from}
+use Rattle.hyper_matrix.specs.Search.{is_before, cells_from}
+use Rattle.hyper_matrix.proofs.LookUpLaws.{not_before_row, not_before_same}
+use Rattle.hyper_matrix.proofs.SkipLaws.{sorted_from, fewer_from}
 use Rattle.cell_queries.specs.Ranges.{is_in_span, is_in_range, cells_in, IsLimit, HasNone}
 
 pub behind_span : (s : Span) (n : ℕ) → s.last < n → is_in_span s n ≡ false

@@ -4,10 +4,10 @@ use Rattle.std.proofs.Common.{inl, inr, arith}
 use Rattle.std.specs.List.{AllByRecursion}
 use Rattle.std.specs.FinMap.{is_sorted}
 use Rattle.std.proofs.lemmas.Bool.{cases_eq, cases_order, eq-eqb, ne_eqb}
-use Rattle.hyper_rows.specs.Counts.{Place, place_cmp, count_sum}
-use Rattle.hyper_rows.specs.Places.{Less, AllPlaces}
-use Rattle.hyper_rows.proofs.CountLaws.{T_first, T_second}
-use Rattle.hyper_rows.proofs.PlaceOrderLaws.{all_map, to_all, place_less}
+use Rattle.hyper_matrix.specs.Counts.{Place, place_cmp, count_sum}
+use Rattle.hyper_matrix.specs.Places.{Less, AllPlaces}
+use Rattle.hyper_matrix.proofs.CountLaws.{T_first, T_second}
+use Rattle.hyper_matrix.proofs.PlaceOrderLaws.{all_map, to_all, place_less}
 use Rattle.cell_queries.specs.declared.tally.RowTally.{RowTally}
 use Rattle.cell_queries.specs.Rows.{row_cells, IsRight, RowsRise, HasRow}
 use Rattle.cell_queries.specs.Tallies.{tally, joined, tallies}

@@ -18,7 +18,7 @@ use Rattle.std.proofs.lemmas.List.Sorted.{IsPermutation-cons}
 use Rattle.std.proofs.lemmas.List.Sorted.{IsPermutation-to_front, IsPermutation-middle, IsPermutation-append_left}
 use Rattle.std.proofs.lemmas.List.Sorted.{IsPermutation-map, All-permutation, length_permutation}
 use Rattle.cells.proofs.OrderLaws.{not_below}
-use Rattle.hyper_rows.proofs.PlaceOrderLaws.{place_less}
+use Rattle.hyper_matrix.proofs.PlaceOrderLaws.{place_less}
 use Rattle.cell_queries.specs.declared.tally.RowTally.{RowTally}
 use Rattle.cell_queries.specs.declared.top.TopBy.{TopBy}
 use Rattle.cell_queries.specs.declared.top.Ranked.{Ranked}

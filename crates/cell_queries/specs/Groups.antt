@@ -4,8 +4,8 @@
 --     opened o ts     a group that is not finished, and the groups after it
 use Rattle.std.specs.Prelude.{ℕ, ◌/◌, ◌^◌, ◌≤◌, T, List, [], ◌∷◌, Option, Some, None, if◌then◌else◌}
 use Rattle.std.specs.FinMap.{is_sorted}
-use Rattle.hyper_rows.specs.Counts.{Place, place_cmp}
-use Rattle.hyper_rows.specs.Places.{AllPlaces}
+use Rattle.hyper_matrix.specs.Counts.{Place, place_cmp}
+use Rattle.hyper_matrix.specs.Places.{AllPlaces}
 use Rattle.cell_queries.specs.declared.groups.RowGroups.{RowGroups}
 use Rattle.cell_queries.specs.declared.tally.RowTally.{RowTally}
 use Rattle.cell_queries.specs.Ranges.{is_in_span}

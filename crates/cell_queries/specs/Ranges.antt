@@ -8,7 +8,7 @@
 use Rattle.std.specs.Prelude.{◌≡◌, ℕ, Bool, true, false, ◌&&◌, not, nat_le, List, take}
 use Rattle.std.specs.List.{filter}
 use Rattle.std.specs.Ordering.{is_lt}
-use Rattle.hyper_rows.specs.Counts.{Place, place_cmp}
+use Rattle.hyper_matrix.specs.Counts.{Place, place_cmp}
 use Rattle.cell_queries.specs.declared.range.Span.{Span}
 use Rattle.cell_queries.specs.declared.range.CellRange.{CellRange}
 

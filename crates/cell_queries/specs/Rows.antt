@@ -5,7 +5,7 @@
 --     HasRow r ts        row r is one of these
 use Rattle.std.specs.Prelude.{ℕ, ◌≡◌, ◌<◌, ◌==◌, ◌⊎◌, List, [], ◌∷◌, length}
 use Rattle.std.specs.List.{filter, AllByRecursion}
-use Rattle.hyper_rows.specs.Counts.{Place, count_sum}
+use Rattle.hyper_matrix.specs.Counts.{Place, count_sum}
 use Rattle.cell_queries.specs.declared.tally.RowTally.{RowTally}
 
 abbrev pub row_cells : ℕ → List (Place × ℕ) → List (Place × ℕ)

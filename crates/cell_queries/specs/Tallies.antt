@@ -6,7 +6,7 @@
 --     rows_left ahead es the rows of a cell that was taken and of those behind it
 use Rattle.std.specs.Prelude.{ℕ, ◌+◌, ◌==◌, List, [], ◌∷◌, Option, Some, None, if◌then◌else◌}
 use Rattle.cells.specs.declared.cell.Cell.{Cell}
-use Rattle.hyper_rows.specs.Counts.{Place}
+use Rattle.hyper_matrix.specs.Counts.{Place}
 use Rattle.cell_queries.specs.declared.tally.RowTally.{RowTally}
 
 abbrev pub tally : ℕ → ℕ → ℕ → RowTally

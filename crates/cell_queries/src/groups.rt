@@ -5,8 +5,8 @@
 ghost use Rattle.std.specs.Prelude.{◌≡◌, ◌<◌, ◌/◌, ◌^◌, [], ◌∷◌, ◌++◌, ℕ, List, T, length, IfOk, IfSome, OnOk};
 ghost use Rattle.std.specs.Prelude.{MatchOption};
 ghost use Rattle.std.specs.FinMap.{is_sorted};
-ghost use Rattle.hyper_rows.specs.Cells.{entry_of};
-ghost use Rattle.hyper_rows.specs.Counts.{place_cmp};
+ghost use Rattle.hyper_matrix.specs.Cells.{entry_of};
+ghost use Rattle.hyper_matrix.specs.Counts.{place_cmp};
 ghost use Rattle.cell_queries.specs.declared.tally.RowTally.{RowTally};
 ghost use Rattle.cell_queries.specs.declared.top.TopBy.{TopBy};
 ghost use Rattle.cell_queries.specs.Gathering.{Gathers};

@@ -3,7 +3,7 @@ ghost use Rattle.std.specs.Prelude.{◌≡◌, ◌≤◌, ◌⊎◌, ◌++◌, �
 ghost use Rattle.std.specs.List.{AllByRecursion, Contains};
 ghost use Rattle.std.specs.List.Sorted.{IsPermutation};
 ghost use Rattle.std.specs.FinMap.{entries, is_sorted};
-ghost use Rattle.hyper_rows.specs.Counts.{Place, place_cmp, Counts, ewise_add};
+ghost use Rattle.hyper_matrix.specs.Counts.{Place, place_cmp, Counts, ewise_add};
 ghost use Rattle.cell_queries.specs.declared.groups.RowGroups.{RowGroups};
 ghost use Rattle.cell_queries.specs.declared.tally.RowTally.{RowTally};
 ghost use Rattle.cell_queries.specs.declared.top.TopBy.{TopBy};

@@ -1,6 +1,6 @@
 //! The cells of a list as a source.
 ghost use Rattle.std.specs.Prelude.{◌≡◌, map};
-ghost use Rattle.hyper_rows.specs.Cells.{entry_of};
+ghost use Rattle.hyper_matrix.specs.Cells.{entry_of};
 
 use crate::source::CellSource;
 use cells::Cell;
@@ -15,8 +15,8 @@ pub struct ListedCells<'a> {
 
 impl<'a> Model for ListedCells<'a> {
     ghost use Rattle.std.specs.Prelude.{ℕ, List, map};
-    ghost use Rattle.hyper_rows.specs.Counts.{Place};
-    ghost use Rattle.hyper_rows.specs.Cells.{entry_of};
+    ghost use Rattle.hyper_matrix.specs.Counts.{Place};
+    ghost use Rattle.hyper_matrix.specs.Cells.{entry_of};
 
     ghost Value = { List (Place × ℕ) };
 

@@ -1,14 +1,14 @@
 //! The cells of a range of rows and columns, page by page.
 ghost use Rattle.std.specs.Prelude.{◌≡◌, ◌<◌, ◌↔◌, ◌∷◌, ℕ, false, IsTrue, T, map, length, IfOk, MatchOption};
 ghost use Rattle.std.specs.FinMap.{is_sorted};
-ghost use Rattle.hyper_rows.specs.Counts.{place_cmp};
-ghost use Rattle.hyper_rows.specs.Cells.{entry_of, place_of};
-ghost use Rattle.hyper_rows.specs.Places.{Less};
+ghost use Rattle.hyper_matrix.specs.Counts.{place_cmp};
+ghost use Rattle.hyper_matrix.specs.Cells.{entry_of, place_of};
+ghost use Rattle.hyper_matrix.specs.Places.{Less};
 ghost use Rattle.cell_queries.specs.Ranges.{is_in_span, is_in_range, cells_in, page_of, IsLimit, HasNone};
 
 use crate::source::CellSource;
 use cells::Cell;
-use hyper_rows::is_before;
+use hyper_matrix::is_before;
 use std::alloc::{AllocError, Global};
 
 /// The numbers from `first` to `last`, both in. There is none where `last` is less.

@@ -2,9 +2,9 @@
 ghost use Rattle.std.specs.Prelude.{◌≡◌, ℕ, T, List};
 ghost use Rattle.std.specs.FinMap.{entries, is_sorted};
 ghost use Rattle.std.specs.Iterator.{YieldsFirstBy};
-ghost use Rattle.hyper_rows.specs.Cells.{entry_of};
-ghost use Rattle.hyper_rows.specs.Counts.{Place, place_cmp};
-ghost use Rattle.hyper_rows.specs.Search.{cells_from};
+ghost use Rattle.hyper_matrix.specs.Cells.{entry_of};
+ghost use Rattle.hyper_matrix.specs.Counts.{Place, place_cmp};
+ghost use Rattle.hyper_matrix.specs.Search.{cells_from};
 
 use cells::Cell;
 use hyper_matrix::Cells;

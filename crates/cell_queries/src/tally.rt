@@ -1,6 +1,6 @@
 //! The rows of cells in order, one after the other.
 ghost use Rattle.std.specs.Prelude.{◌≡◌, ◌<◌, ◌+◌, [], ◌∷◌, length, IfOk, MatchOption, IfSome, option_to_list};
-ghost use Rattle.hyper_rows.specs.Cells.{entry_of};
+ghost use Rattle.hyper_matrix.specs.Cells.{entry_of};
 ghost use Rattle.cell_queries.specs.Tallies.{joined, tally, tallies, rows_left};
 
 use crate::source::CellSource;

@@ -17,7 +17,7 @@ ghost use Rattle.cell_queries.specs.Tops.{IsTop};
 
 use crate::source::CellSource;
 use crate::tally::{RowTally, next_row};
-use hyper_rows::shard_of;
+use hyper_matrix::shard_of;
 use std::alloc::{AllocError, Global};
 use std::cmp::Ordering;
 use std::collections::BinaryHeap;

@@ -11,7 +11,7 @@ use Rattle.std.proofs.lemmas.List.{get_or_default}
 use Rattle.std.proofs.lemmas.Nat.{and_or_self}
 use Rattle.std.proofs.lemmas.Nat.Bits.{bit_at_and, bit_at_or, same_from_bits}
 use Rattle.hyper_matrix.specs.Counts.{Place, place_cmp}
-use Rattle.hyper_rows.proofs.CountLaws.{tied}
+use Rattle.hyper_matrix.proofs.CountLaws.{tied}
 use Rattle.filtered_matrix.specs.Filter.{hash, slot, bits_of, has_bits, may_have, Marks}
 
 -- without a word every place passes

@@ -1,6 +1,11 @@
-pub use Rattle.hyper_rows.proofs.CountLaws
-pub use Rattle.hyper_rows.proofs.CellLaws
-pub use Rattle.hyper_rows.proofs.BuiltOfLaws
+pub mod CountLaws
+pub mod CellLaws
+pub mod SortedListLaws
+pub mod PlaceOrderLaws
+pub mod LookUpLaws
+pub mod SkipLaws
+pub mod BuiltOfLaws
+pub mod ShardLaws
 pub mod PieceLaws
 pub mod MatrixLaws
 pub mod BuildLaws

@@ -8,12 +8,12 @@ use Rattle.std.specs.FinMap.{empty, entries, len, len-entries}
 use Rattle.cells.specs.Bounds.{IsDimension, IsWithin, AreWithin}
 use Rattle.cells.specs.Order.{Rise}
 use Rattle.cells.specs.declared.cell.Cell.{Cell}
-use Rattle.hyper_rows.specs.Counts.{total, built, ewise_add}
-use Rattle.hyper_rows.specs.Cells.{entry_of, built_of, cell_total}
-use Rattle.hyper_rows.proofs.BuiltOfLaws.{total-built_of, built_of-none}
-use Rattle.hyper_rows.proofs.CountLaws.{total-ewise_add, ewise_add_comm, ewise_add-empty}
-use Rattle.hyper_rows.proofs.SortedListLaws.{built-in_order, entries-in_order}
-use Rattle.hyper_rows.proofs.PlaceOrderLaws.{sorted_rising}
+use Rattle.hyper_matrix.specs.Counts.{total, built, ewise_add}
+use Rattle.hyper_matrix.specs.Cells.{entry_of, built_of, cell_total}
+use Rattle.hyper_matrix.proofs.BuiltOfLaws.{total-built_of, built_of-none}
+use Rattle.hyper_matrix.proofs.CountLaws.{total-ewise_add, ewise_add_comm, ewise_add-empty}
+use Rattle.hyper_matrix.proofs.SortedListLaws.{built-in_order, entries-in_order}
+use Rattle.hyper_matrix.proofs.PlaceOrderLaws.{sorted_rising}
 use Rattle.hyper_matrix.specs.Matrix.{Matrix, matrix}
 use Rattle.hyper_matrix.specs.Merge.{AppendsSum}
 use Rattle.hyper_matrix.specs.Shared.{LiesWithin, Holds}

@@ -16,17 +16,16 @@ use Rattle.std.specs.FinMap.Entries.{find-where_key, is_sorted-where_key}
 use Rattle.cells.specs.Bounds.{AreWithin}
 use Rattle.cells.specs.Order.{Rise}
 use Rattle.cells.specs.declared.cell.Cell.{Cell}
-use Rattle.hyper_rows.specs.Counts.{Place, place_cmp, Counts, count_sum, total, built, part, in_part, plus, ewise_add}
-use Rattle.hyper_rows.specs.Cells.{entry_of, place_of, built_of, cell_total}
-use Rattle.hyper_rows.specs.Parts.{part_entries}
-use Rattle.hyper_rows.proofs.CountLaws.{exact_places, same_counts, get-part, get-built, gathered-rising, parts_whole}
-use Rattle.hyper_rows.proofs.CountLaws.{ewise_add_comm, ewise_add-empty, get-ewise_add}
-use Rattle.hyper_rows.proofs.SortedListLaws.{entries-in_order, built-in_order}
-use Rattle.hyper_rows.proofs.PlaceOrderLaws.{rises, sorted_rising}
-use Rattle.hyper_rows.proofs.BuiltOfLaws.{entries_total}
+use Rattle.hyper_matrix.specs.Counts.{Place, place_cmp, Counts, count_sum, total, built, part, in_part, plus, ewise_add}
+use Rattle.hyper_matrix.specs.Cells.{entry_of, place_of, built_of, cell_total}
+use Rattle.hyper_matrix.specs.Parts.{part_entries, shard_part, parts_below, shard_cells, count_below, InLine}
+use Rattle.hyper_matrix.proofs.CountLaws.{exact_places, same_counts, get-part, get-built, gathered-rising, parts_whole}
+use Rattle.hyper_matrix.proofs.CountLaws.{ewise_add_comm, ewise_add-empty, get-ewise_add}
+use Rattle.hyper_matrix.proofs.SortedListLaws.{entries-in_order, built-in_order}
+use Rattle.hyper_matrix.proofs.PlaceOrderLaws.{rises, sorted_rising}
+use Rattle.hyper_matrix.proofs.BuiltOfLaws.{entries_total}
 use Rattle.hyper_matrix.specs.Matrix.{Matrix, matrix}
 use Rattle.hyper_matrix.specs.Shared.{LiesWithin}
-use Rattle.hyper_matrix.specs.Parts.{shard_part, parts_below, shard_cells, count_below, InLine}
 use Rattle.hyper_matrix.proofs.MatrixLaws.{cells_within, entries_within}
 
 alike : (s k : ℕ) (q x : Place) → place_cmp q x ≡ Ordering.Equal → in_part s k x ≡ in_part s k q

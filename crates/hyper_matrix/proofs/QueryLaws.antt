@@ -4,9 +4,9 @@ use Rattle.std.proofs.Common.{map, Option, Some, None, sym, ◌∙◌, ap, subst
 use Rattle.std.specs.List.{slice_get, AllByRecursion}
 use Rattle.std.specs.FinMap.{entries, len, find, get, get-empty, empty}
 use Rattle.cells.specs.declared.cell.Cell.{Cell}
-use Rattle.hyper_rows.specs.Counts.{Place, Counts, place_cmp, total}
-use Rattle.hyper_rows.specs.Cells.{entry_of, built_of}
-use Rattle.hyper_rows.specs.Search.{IsRowSum}
+use Rattle.hyper_matrix.specs.Counts.{Place, Counts, place_cmp, total}
+use Rattle.hyper_matrix.specs.Cells.{entry_of, built_of}
+use Rattle.hyper_matrix.specs.Search.{IsRowSum}
 use Rattle.hyper_matrix.specs.Matrix.{Matrix, matrix}
 use Rattle.hyper_matrix.specs.RowOf.{row_of, IsFirst, HasNoneFrom}
 use Rattle.hyper_matrix.specs.Shared.{LiesWithin, Holds}
@@ -16,8 +16,8 @@ use Rattle.std.specs.Option.{option_map}
 use Rattle.std.specs.Ordering.{eq_by_cmp}
 use Rattle.std.proofs.lemmas.Bool.{cases_eq, eq-eqb, ne_eqb}
 use Rattle.std.proofs.lemmas.Option.{none-some, same_Some, slice_get-map}
-use Rattle.hyper_rows.proofs.CountLaws.{exact_places, same_counts}
-use Rattle.hyper_rows.proofs.PlaceOrderLaws.{sorted_rising}
+use Rattle.hyper_matrix.proofs.CountLaws.{exact_places, same_counts}
+use Rattle.hyper_matrix.proofs.PlaceOrderLaws.{sorted_rising}
 use Rattle.hyper_matrix.proofs.MatrixLaws.{entries-built, entries_within}
 use Rattle.hyper_matrix.proofs.SearchLaws.{is_equal, held}
 use Rattle.hyper_matrix.proofs.RowOfLaws.{get-row_of, len-row_of, total-row_of}

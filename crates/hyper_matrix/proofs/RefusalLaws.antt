@@ -7,9 +7,8 @@ use Rattle.std.proofs.lemmas.List.Elements.{All-nil, All-cons, All-head, All-tai
 use Rattle.std.proofs.lemmas.List.{append-nil}
 use Rattle.cells.specs.Bounds.{IsWithin, AreWithin}
 use Rattle.cells.specs.declared.cell.Cell.{Cell}
-use Rattle.hyper_rows.specs.Cells.{cell_total}
-use Rattle.hyper_matrix.specs.Refusals.{first_fault}
-use Rattle.hyper_matrix.specs.Refusals.{MakesMatrix, LeavesDimensions, PassesLimit}
+use Rattle.hyper_matrix.specs.Cells.{cell_total}
+use Rattle.hyper_matrix.specs.Refusals.{first_fault, MakesMatrix, LeavesDimensions, PassesLimit}
 use Rattle.hyper_matrix.specs.declared.judge.BuildFault.TheVariants.{IndexOutOfRange, SumTooLarge}
 
 and_false : (b : Bool) → (b && false) ≡ false

@@ -5,10 +5,10 @@ use Rattle.std.specs.FinMap.{get, entries, len, len-entries, is_sorted, get-entr
 use Rattle.std.specs.FinMap.{entries_sorted, from_sorted, entries-from_sorted}
 use Rattle.std.specs.FinMap.Entries.{find-where_key, is_sorted-where_key}
 use Rattle.std.proofs.lemmas.Bool.{eq-eqb, ne_eqb}
-use Rattle.hyper_rows.specs.Counts.{Place, place_cmp, Counts, plus, count_sum, total, ewise_add}
-use Rattle.hyper_rows.specs.Search.{row_cells, IsRowSum}
+use Rattle.hyper_matrix.specs.Counts.{Place, place_cmp, Counts, plus, count_sum, total, ewise_add}
+use Rattle.hyper_matrix.specs.Search.{row_cells, IsRowSum}
 use Rattle.hyper_matrix.specs.RowOf.{row_of}
-use Rattle.hyper_rows.proofs.CountLaws.{exact_places, same_counts, get-ewise_add, total-ewise_add}
+use Rattle.hyper_matrix.proofs.CountLaws.{exact_places, same_counts, get-ewise_add, total-ewise_add}
 
 -- whether a place is in row r
 abbrev in_row : ℕ → Place → Bool

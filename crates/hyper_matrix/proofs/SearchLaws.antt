@@ -13,20 +13,19 @@ use Rattle.std.proofs.lemmas.Cmp.{tied_itself}
 use Rattle.std.proofs.lemmas.Option.{none-some, same_Some}
 use Rattle.cells.specs.Order.{Rise}
 use Rattle.cells.specs.declared.cell.Cell.{Cell}
-use Rattle.hyper_rows.specs.Counts.{Place, place_cmp, count_sum, built}
-use Rattle.hyper_rows.specs.Cells.{entry_of, cell_total}
-use Rattle.hyper_rows.specs.Search.{is_before, first_from, cells_from, row_cells, TurnsAt, IsRowSum}
+use Rattle.hyper_matrix.specs.Counts.{Place, place_cmp, count_sum, built}
+use Rattle.hyper_matrix.specs.Cells.{entry_of, cell_total}
+use Rattle.hyper_matrix.specs.Search.{is_before, first_from, cells_from, row_cells, TurnsAt, IsRowSum}
 use Rattle.hyper_matrix.specs.Places.{place_at}
 use Rattle.hyper_matrix.specs.RowOf.{IsFirst, HasNoneFrom}
-use Rattle.hyper_rows.proofs.BuildLaws.{not_below}
-use Rattle.hyper_rows.proofs.BuiltOfLaws.{entries_total}
-use Rattle.hyper_rows.proofs.CountLaws.{places_total, exact_places, get-built, gathered-rising, T_first, T_second, T_both}
-use Rattle.hyper_rows.proofs.CountLaws.{find_below}
-use Rattle.hyper_rows.proofs.SearchLaws.{AllBefore, EndsIn, ends_before, before_trans, before_is, before_row, before_col}
-use Rattle.hyper_rows.proofs.SearchLaws.{not_before_same, as_true, as_T, none_before, none_behind, counted_none}
-use Rattle.hyper_rows.proofs.SearchLaws.{counted_more, counted_le, counted_all}
-use Rattle.hyper_rows.proofs.SkipLaws.{AllFrom, follows_none, none_from, begins_from}
-use Rattle.hyper_rows.proofs.PlaceOrderLaws.{sorted_front, sorted_back, sorted_rising, rises}
+use Rattle.hyper_matrix.proofs.PlaceOrderLaws.{not_below, sorted_front, sorted_back, sorted_rising, rises}
+use Rattle.hyper_matrix.proofs.BuiltOfLaws.{entries_total}
+use Rattle.hyper_matrix.proofs.CountLaws.{places_total, exact_places, get-built, gathered-rising, T_first, T_second, T_both}
+use Rattle.hyper_matrix.proofs.CountLaws.{find_below}
+use Rattle.hyper_matrix.proofs.LookUpLaws.{AllBefore, EndsIn, ends_before, before_trans, before_is, before_row, before_col}
+use Rattle.hyper_matrix.proofs.LookUpLaws.{not_before_same, as_true, as_T, none_before, none_behind, counted_none}
+use Rattle.hyper_matrix.proofs.LookUpLaws.{counted_more, counted_le, counted_all}
+use Rattle.hyper_matrix.proofs.SkipLaws.{AllFrom, follows_none, none_from, begins_from}
 
 pub is_equal : (r : Ordering) → is_eq r ≡ true → r ≡ Ordering.Equal
 is_equal Ordering.Less e = absurd (false≢true e)

@@ -1,11 +1,12 @@
-pub use Rattle.hyper_rows.specs.Counts
-pub use Rattle.hyper_rows.specs.Cells
+pub mod Counts
+pub mod Places
+pub mod Cells
+pub mod Search
 pub mod Matrix
 pub mod Pieces
 pub mod Shared
 pub mod Merge
 pub mod Parts
-pub mod Places
 pub mod RowOf
 pub mod Refusals
 pub mod ListSum

@@ -1,7 +1,7 @@
 -- A matrix: its dimensions, and a finite map from places to counts.
 use Rattle.std.specs.Prelude.{ℕ, refl}
 use Rattle.std.specs.Coded.{Coded, code_by, coded×, coded_ℕ}
-use Rattle.hyper_rows.specs.Counts.{Counts, coded_counts}
+use Rattle.hyper_matrix.specs.Counts.{Counts, coded_counts}
 
 pub record Matrix : Type 0 where
   pub rows : ℕ

@@ -5,8 +5,8 @@ use Rattle.std.specs.Prelude.{◌≡◌, ℕ, ◌-◌, ◌<◌, ◌≤◌, List,
 use Rattle.cells.specs.Bounds.{AreWithin}
 use Rattle.cells.specs.Order.{Precedes, Rise}
 use Rattle.cells.specs.declared.cell.Cell.{Cell}
-use Rattle.hyper_rows.specs.Counts.{ewise_add}
-use Rattle.hyper_rows.specs.Cells.{built_of}
+use Rattle.hyper_matrix.specs.Counts.{ewise_add}
+use Rattle.hyper_matrix.specs.Cells.{built_of}
 
 -- cells in order were appended, that build the sum of what two lists build
 pub record AppendsSum (old new left right : List Cell) : Type 0 where

@@ -1,4 +1,5 @@
 -- The parts of a matrix in the shards of k: shard s has the rows whose number leaves s when divided by k.
+--     part_entries s k es     the entries of shard s: those whose row leaves s when divided by k
 --     shard_part s k m         the part in shard s, a matrix of the same dimensions
 --     parts_below n k m        the parts in the shards below n, in order
 --     shard_cells s k cells    the cells of a list that lie in shard s
@@ -6,9 +7,12 @@
 --     InLine k all cells       `all` has the cells of each shard, one shard after the other
 use Rattle.std.specs.Prelude.{◌≡◌, ℕ, ◌+◌, ◌<◌, zero, suc, List, [], ◌∷◌, ◌++◌, filter, length, slice_range}
 use Rattle.cells.specs.declared.cell.Cell.{Cell}
-use Rattle.hyper_rows.specs.Counts.{part, in_part}
-use Rattle.hyper_rows.specs.Cells.{place_of}
+use Rattle.hyper_matrix.specs.Counts.{Place, part, in_part}
+use Rattle.hyper_matrix.specs.Cells.{place_of}
 use Rattle.hyper_matrix.specs.Matrix.{Matrix, matrix}
+
+abbrev pub part_entries : ℕ → ℕ → List (Place × ℕ) → List (Place × ℕ)
+part_entries s k es = filter (λ (e : Place × ℕ). in_part s k e.0) es
 
 abbrev pub shard_part : ℕ → ℕ → Matrix → Matrix
 shard_part s k m = matrix m.rows m.cols (part m.counts s k)

@@ -7,7 +7,7 @@ use Rattle.std.specs.Prelude.{◌≡◌, ℕ, ◌+◌, ◌<◌, ◌≤◌, ◌^�
 use Rattle.std.specs.Prelude.{if◌then◌else◌, nat_lt}
 use Rattle.cells.specs.Bounds.{IsWithin, AreWithin}
 use Rattle.cells.specs.declared.cell.Cell.{Cell}
-use Rattle.hyper_rows.specs.Cells.{cell_total}
+use Rattle.hyper_matrix.specs.Cells.{cell_total}
 use Rattle.hyper_matrix.specs.declared.judge.BuildFault.{BuildFault}
 use Rattle.hyper_matrix.specs.declared.judge.BuildFault.TheVariants.{IndexOutOfRange, SumTooLarge}
 

@@ -1,7 +1,7 @@
 -- One row of a matrix.
 use Rattle.std.specs.Prelude.{◌≡◌, ℕ, ◌<◌, ◌≤◌, ◌==◌, Some, None}
 use Rattle.std.specs.FinMap.{get, retain_keys}
-use Rattle.hyper_rows.specs.Counts.{Counts}
+use Rattle.hyper_matrix.specs.Counts.{Counts}
 use Rattle.hyper_matrix.specs.declared.row_sum.Entry.{Entry}
 
 -- the entries of row r

@@ -3,8 +3,8 @@ use Rattle.std.specs.Prelude.{◌≡◌, ◌<◌, ℕ, List}
 use Rattle.cells.specs.Bounds.{IsDimension, AreWithin}
 use Rattle.cells.specs.Order.{Rise}
 use Rattle.cells.specs.declared.cell.Cell.{Cell}
-use Rattle.hyper_rows.specs.Counts.{Place}
-use Rattle.hyper_rows.specs.Cells.{cell_total}
+use Rattle.hyper_matrix.specs.Counts.{Place}
+use Rattle.hyper_matrix.specs.Cells.{cell_total}
 
 -- an entry at a place within these dimensions
 abbrev pub LiesWithin : ℕ → ℕ → Place × ℕ → Type 0

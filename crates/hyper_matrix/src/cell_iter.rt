@@ -2,9 +2,9 @@
 ghost use Rattle.std.specs.Prelude.{◌≡◌, T, map};
 ghost use Rattle.std.specs.FinMap.{is_sorted};
 ghost use Rattle.std.specs.Iterator.{YieldsFirstBy, item_count};
-ghost use Rattle.hyper_rows.specs.Cells.{entry_of};
-ghost use Rattle.hyper_rows.specs.Counts.{place_cmp};
-ghost use Rattle.hyper_rows.specs.Search.{cells_from};
+ghost use Rattle.hyper_matrix.specs.Cells.{entry_of};
+ghost use Rattle.hyper_matrix.specs.Counts.{place_cmp};
+ghost use Rattle.hyper_matrix.specs.Search.{cells_from};
 
 use crate::search::count_before;
 use cells::Cell;
@@ -21,8 +21,8 @@ pub struct Cells<'a> {
 
 impl<'a> Model for Cells<'a> {
     ghost use Rattle.std.specs.Prelude.{ℕ, List, map};
-    ghost use Rattle.hyper_rows.specs.Counts.{Place};
-    ghost use Rattle.hyper_rows.specs.Cells.{entry_of};
+    ghost use Rattle.hyper_matrix.specs.Counts.{Place};
+    ghost use Rattle.hyper_matrix.specs.Cells.{entry_of};
 
     ghost Value = { List (Place × ℕ) };
 

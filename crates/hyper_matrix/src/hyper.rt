@@ -37,7 +37,7 @@ pub struct Hyper {
 }
 
 impl Model for Hyper {
-    ghost use Rattle.hyper_rows.specs.Cells.{built_of};
+    ghost use Rattle.hyper_matrix.specs.Cells.{built_of};
     ghost use Rattle.hyper_matrix.specs.Matrix.{Matrix, coded_matrix};
     ghost use Rattle.hyper_matrix.specs.Shared.{Holds};
 

@@ -5,8 +5,8 @@
 ghost use Rattle.std.specs.Prelude.{◌≡◌, ℕ, ◌+◌, ◌<◌, ◌↔◌, List, ◌++◌, IsSome, length};
 ghost use Rattle.std.specs.FinMap.{empty, get};
 ghost use Rattle.cells.specs.declared.cell.Cell.{Cell};
-ghost use Rattle.hyper_rows.specs.Counts.{Place, Counts, count_at, plus, ewise_add, total, parts};
-ghost use Rattle.hyper_rows.specs.Cells.{built_of, cell_total, cells_at};
+ghost use Rattle.hyper_matrix.specs.Counts.{Place, Counts, count_at, plus, ewise_add, total, parts};
+ghost use Rattle.hyper_matrix.specs.Cells.{built_of, cell_total, cells_at};
 
 /// At each place the sum holds what both sides hold there: the sum of two counts, or the one count, or nothing.
 pub fn sums_at_places()

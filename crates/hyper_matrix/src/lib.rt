@@ -5,6 +5,7 @@
 //! pointer, a look-up a bisection, a sum a merge of two lists, and the parts of a matrix are pieces of one list.
 #![tactic(auto)]
 
+mod bisection;
 mod cell_iter;
 mod hyper;
 mod judge;
@@ -18,10 +19,11 @@ mod rising;
 mod row_laws;
 mod row_sum;
 mod search;
+mod shard;
 
+pub use bisection::{is_before, partition_point};
 pub use cell_iter::Cells;
 pub use hyper::Hyper;
-pub use hyper_rows::RowSum;
 pub use judge::BuildFault;
 pub use laws::{
     built_lists_add, built_names_places, built_sums_counts, built_total, empty_is_identity,
@@ -34,5 +36,6 @@ pub use rising::push_merged_neighbours;
 pub use row_laws::{
     row_totals_add, rows_have_no_others, rows_keep_their_entries, rows_of_sums_add,
 };
-pub use row_sum::Entry;
+pub use row_sum::{Entry, RowSum};
 pub use search::count_before;
+pub use shard::shard_of;

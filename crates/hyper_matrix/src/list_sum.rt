@@ -6,7 +6,7 @@
 //! each of them grows once.
 ghost use Rattle.std.specs.Prelude.{◌≡◌, ◌+◌, ◌<◌, ◌^◌, map, length, All, OnOk, IfOk};
 ghost use Rattle.cells.specs.Order.{Rise};
-ghost use Rattle.hyper_rows.specs.Counts.{total};
+ghost use Rattle.hyper_matrix.specs.Counts.{total};
 ghost use Rattle.hyper_matrix.specs.ListSum.{sum_built, IsSumOf, AppendsSeveral, IsSumOfSeveral};
 
 use crate::merge::push_merged;

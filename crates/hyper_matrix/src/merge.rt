@@ -8,11 +8,11 @@ ghost use Rattle.std.specs.Prelude.{◌≡◌, ℕ, ◌+◌, ◌-◌, ◌*◌, �
 ghost use Rattle.std.specs.Prelude.{vec_len, vec_capacity, slice_index_or};
 ghost use Rattle.cells.specs.declared.cell.Cell.{Cell};
 ghost use Rattle.cells.specs.Order.{Precedes, Rise};
-ghost use Rattle.hyper_rows.specs.Cells.{cell_total};
+ghost use Rattle.hyper_matrix.specs.Cells.{cell_total};
 ghost use Rattle.hyper_matrix.specs.Merge.{AppendsSum, SumsTo};
 
 use cells::Cell;
-use hyper_rows::partition_point;
+use crate::bisection::partition_point;
 use std::alloc::AllocError;
 
 // A cell's place as one number: places are in order as these numbers are.

@@ -1,7 +1,7 @@
 //! Laws of a matrix's rows, for callers of the matrix.
 ghost use Rattle.std.specs.Prelude.{◌≡◌, ℕ, ◌+◌, ◌≢◌, None};
 ghost use Rattle.std.specs.FinMap.{get};
-ghost use Rattle.hyper_rows.specs.Counts.{Place, Counts, ewise_add, total};
+ghost use Rattle.hyper_matrix.specs.Counts.{Place, Counts, ewise_add, total};
 ghost use Rattle.hyper_matrix.specs.RowOf.{row_of};
 
 /// A row has what the matrix has at the places of that row.

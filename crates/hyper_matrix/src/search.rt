@@ -4,14 +4,14 @@ ghost use Rattle.std.specs.Prelude.{◌≡◌, ◌<◌, ◌^◌, map, length, Ma
 ghost use Rattle.std.specs.Option.{option_map};
 ghost use Rattle.std.specs.FinMap.{get};
 ghost use Rattle.cells.specs.Order.{Rise};
-ghost use Rattle.hyper_rows.specs.Cells.{built_of, cell_total, entry_of};
-ghost use Rattle.hyper_rows.specs.Search.{TurnsAt, is_before, first_from, IsRowSum};
+ghost use Rattle.hyper_matrix.specs.Cells.{built_of, cell_total, entry_of};
+ghost use Rattle.hyper_matrix.specs.Search.{TurnsAt, is_before, first_from, IsRowSum};
 ghost use Rattle.hyper_matrix.specs.Places.{place_at};
 ghost use Rattle.hyper_matrix.specs.RowOf.{IsFirst, HasNoneFrom};
 
-use crate::row_sum::Entry;
+use crate::row_sum::{Entry, RowSum};
 use cells::Cell;
-use hyper_rows::{RowSum, is_before, partition_point};
+use crate::bisection::{is_before, partition_point};
 
 /// How many cells of a list in order come before a place, by bisection.
 pub fn count_before(cells: &[Cell], place: (u64, u64)) -> usize

@@ -11,8 +11,8 @@ use Rattle.hyper_matrix.specs.Cells.{built_of, entry_of}
 use Rattle.hyper_matrix.specs.Counts.{place_cmp, ewise_add}
 use Rattle.hyper_matrix.specs.Matrix.{Matrix}
 use Rattle.hyper_matrix.proofs.CountLaws.{ewise_add_comm}
-use Rattle.hyper_rows.proofs.PlaceOrderLaws.{sorted_rising}
-use Rattle.hyper_rows.proofs.SortedListLaws.{built-in_order, entries-in_order}
+use Rattle.hyper_matrix.proofs.PlaceOrderLaws.{sorted_rising}
+use Rattle.hyper_matrix.proofs.SortedListLaws.{built-in_order, entries-in_order}
 use Rattle.layer_compaction.specs.Shared.{content, values, all_counts}
 use Rattle.layer_compaction.specs.Runs.{CountsPlaces, count_new}
 use Rattle.layer_compaction.proofs.LayerLemmas.{sum_more, take-front}

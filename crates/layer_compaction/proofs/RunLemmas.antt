@@ -8,13 +8,13 @@ use Rattle.std.specs.FinMap.{get, len, entries, is_sorted, entries_sorted, len-i
 use Rattle.std.specs.FinMap.Entries.{below_all}
 use Rattle.std.proofs.lemmas.Bool.{false≢true}
 use Rattle.std.proofs.lemmas.List.{map-append, take-map, take-append-drop, drop_all}
-use Rattle.hyper_rows.specs.Counts.{Place, place_cmp, Counts, count_at, add_at, add_all, ewise_add, plus, total}
-use Rattle.hyper_rows.proofs.CountLaws.{places_total, get-add_at, plus-none, T_first, T_second, less_not_equal, tied}
-use Rattle.hyper_rows.proofs.CountLaws.{ewise_add-empty, ewise_add_assoc, ewise_add_comm, total-ewise_add}
-use Rattle.hyper_rows.proofs.CountLaws.{same_counts, get-built, gathered-rising, built-append}
-use Rattle.hyper_rows.proofs.SortedListLaws.{same_tie}
-use Rattle.hyper_rows.specs.Cells.{entry_of, built_of}
-use Rattle.hyper_rows.specs.Counts.{built}
+use Rattle.hyper_matrix.specs.Counts.{Place, place_cmp, Counts, count_at, add_at, add_all, ewise_add, plus, total}
+use Rattle.hyper_matrix.proofs.CountLaws.{places_total, get-add_at, plus-none, T_first, T_second, less_not_equal, tied}
+use Rattle.hyper_matrix.proofs.CountLaws.{ewise_add-empty, ewise_add_assoc, ewise_add_comm, total-ewise_add}
+use Rattle.hyper_matrix.proofs.CountLaws.{same_counts, get-built, gathered-rising, built-append}
+use Rattle.hyper_matrix.proofs.SortedListLaws.{same_tie}
+use Rattle.hyper_matrix.specs.Cells.{entry_of, built_of}
+use Rattle.hyper_matrix.specs.Counts.{built}
 use Rattle.cells.specs.declared.cell.Cell.{Cell}
 use Rattle.std.specs.FinMap.{get-entries, get-empty, find}
 use Rattle.std.specs.Prelude.{map}

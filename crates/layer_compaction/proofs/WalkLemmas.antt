@@ -4,16 +4,16 @@ use Rattle.std.proofs.Common.{sym, ◌∙◌, ap, subst, refl}
 use Rattle.std.proofs.lemmas.Bool.{false≢true}
 use Rattle.std.specs.Prelude.{Option, MatchOption}
 use Rattle.cells.specs.declared.cell.Cell.{Cell}
-use Rattle.hyper_rows.specs.Cells.{entry_of}
+use Rattle.hyper_matrix.specs.Cells.{entry_of}
 use Rattle.std.specs.declared.cmp.Ordering.{Ordering}
 use Rattle.std.specs.Ordering.{eq_by_cmp, is_lt, is_eq, ordering_reverse}
 use Rattle.std.specs.FinMap.{get, entries, find, is_sorted, get-entries}
 use Rattle.std.specs.FinMap.Entries.{below_all}
-use Rattle.hyper_rows.specs.Counts.{Place, place_cmp, Counts}
-use Rattle.hyper_rows.specs.Places.{AllPlaces, IsFirst}
-use Rattle.hyper_rows.specs.Search.{is_before}
-use Rattle.hyper_rows.proofs.CountLaws.{places_total, find_below, is_less, T_first, T_second, T_both, tied}
-use Rattle.hyper_rows.proofs.SortedListLaws.{same_tie}
+use Rattle.hyper_matrix.specs.Counts.{Place, place_cmp, Counts}
+use Rattle.hyper_matrix.specs.Places.{AllPlaces, IsFirst}
+use Rattle.hyper_matrix.specs.Search.{is_before}
+use Rattle.hyper_matrix.proofs.CountLaws.{places_total, find_below, is_less, T_first, T_second, T_both, tied}
+use Rattle.hyper_matrix.proofs.SortedListLaws.{same_tie}
 use Rattle.layer_compaction.specs.Runs.{from_place, left_with}
 use Rattle.layer_compaction.proofs.RunLemmas.{other}
 

@@ -8,9 +8,9 @@ use Rattle.std.specs.Prelude.{Option, map}
 use Rattle.std.specs.FinMap.{get, empty, is_sorted, get-empty}
 use Rattle.std.specs.FinMap.Entries.{below_all}
 use Rattle.cells.specs.declared.cell.Cell.{Cell}
-use Rattle.hyper_rows.specs.Cells.{entry_of}
-use Rattle.hyper_rows.specs.Counts.{Place, place_cmp, Counts, plus, ewise_add}
-use Rattle.hyper_rows.proofs.CountLaws.{T_first, T_second, T_both, get-ewise_add}
+use Rattle.hyper_matrix.specs.Cells.{entry_of}
+use Rattle.hyper_matrix.specs.Counts.{Place, place_cmp, Counts, plus, ewise_add}
+use Rattle.hyper_matrix.proofs.CountLaws.{T_first, T_second, T_both, get-ewise_add}
 use Rattle.layer_compaction.specs.Runs.{count_new, without}
 
 -- as many as are new

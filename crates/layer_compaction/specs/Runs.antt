@@ -3,8 +3,8 @@ use Rattle.std.specs.Prelude.{◌≡◌, ℕ, ◌+◌, ◌<◌, ◌≤◌, ◌^�
 use Rattle.std.specs.Prelude.{Option, Some, None}
 use Rattle.std.specs.FinMap.{get, len}
 use Rattle.cells.specs.declared.cell.Cell.{Cell}
-use Rattle.hyper_rows.specs.Cells.{entry_of}
-use Rattle.hyper_rows.specs.Search.{is_before}
+use Rattle.hyper_matrix.specs.Cells.{entry_of}
+use Rattle.hyper_matrix.specs.Search.{is_before}
 use Rattle.cells.specs.Bounds.{IsDimension}
 use Rattle.hyper_matrix.specs.Counts.{Counts, Place, total}
 use Rattle.hyper_matrix.specs.Matrix.{Matrix}

@@ -5,10 +5,9 @@ ghost use Rattle.std.specs.Arc.{arc_value};
 ghost use Rattle.std.specs.FinMap.{get, len, entries, is_sorted};
 ghost use Rattle.cells.specs.Bounds.{IsDimension};
 ghost use Rattle.hyper_matrix.specs.Cells.{entry_of};
-ghost use Rattle.hyper_matrix.specs.Counts.{ewise_add, total};
+ghost use Rattle.hyper_matrix.specs.Counts.{ewise_add, total, place_cmp};
 ghost use Rattle.hyper_matrix.specs.Matrix.{matrix};
 ghost use Rattle.hyper_matrix.specs.RowOf.{row_of};
-ghost use Rattle.hyper_rows.specs.Counts.{place_cmp};
 ghost use Rattle.layer_compaction.specs.Shared.{content, values, all_counts, HaveDims};
 ghost use Rattle.layer_compaction.specs.Runs.{count_new, CountsPlaces};
 

@@ -2,13 +2,13 @@
 ghost use Rattle.std.specs.Prelude.{◌≡◌, ℕ, ◌≤◌, List, IsTrue, T, ◌↔◌, length, map, take};
 ghost use Rattle.std.specs.FinMap.{entries, is_sorted};
 ghost use Rattle.hyper_matrix.specs.Cells.{entry_of};
-ghost use Rattle.hyper_rows.specs.Counts.{Place, place_cmp};
-ghost use Rattle.hyper_rows.specs.Places.{IsFirst};
+ghost use Rattle.hyper_matrix.specs.Counts.{Place, place_cmp};
+ghost use Rattle.hyper_matrix.specs.Places.{IsFirst};
 ghost use Rattle.layer_compaction.specs.Runs.{count_new, from_place, left_with, without};
 
 use cells::Cell;
 use hyper_matrix::{Cells, Hyper};
-use hyper_rows::is_before;
+use hyper_matrix::is_before;
 
 // Passes the cells that stand before a place, and gives the first that doesn't. `head` is the one taken last.
 fn advanced(cells: &mut Cells<'_>, head: Option<Cell>, place: (u64, u64)) -> Option<Cell>

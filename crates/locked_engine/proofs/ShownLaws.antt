@@ -5,7 +5,7 @@ use Rattle.std.specs.Prelude.{◌⊎◌, IfSome, IfOk, Result, Ok, Err, unwrap_o
 use Rattle.std.specs.Option.{option_flatten}
 use Rattle.std.proofs.Common.{inl, inr}
 use Rattle.std.specs.FinMap.{get, len}
-use Rattle.hyper_rows.specs.declared.search.RowSum.{RowSum}
+use Rattle.hyper_matrix.specs.declared.row_sum.RowSum.{RowSum}
 use Rattle.hyper_matrix.specs.Counts.{part, total}
 use Rattle.hyper_matrix.specs.RowOf.{row_of}
 use Rattle.layer_cascade.specs.Layering.{Layering}

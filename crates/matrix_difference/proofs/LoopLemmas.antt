@@ -6,8 +6,8 @@ use Rattle.std.proofs.lemmas.Option.{none-some, same_Some, slice_get_within}
 use Rattle.std.proofs.lemmas.List.{drop_all}
 use Rattle.std.proofs.Math.Seq.{drop-cons}
 use Rattle.cells.specs.declared.cell.Cell.{Cell}
-use Rattle.hyper_rows.specs.Counts.{Place}
-use Rattle.hyper_rows.specs.Cells.{place_of}
+use Rattle.hyper_matrix.specs.Counts.{Place}
+use Rattle.hyper_matrix.specs.Cells.{place_of}
 use Rattle.matrix_difference.specs.Walk.{step_of, with_more, goes_on, ended, walked}
 use Rattle.matrix_difference.specs.declared.walk.Step.{Step}
 use Rattle.matrix_difference.specs.declared.walk.Step.TheVariants.{Falls, Keep, Meet}

@@ -6,8 +6,8 @@ use Rattle.std.specs.FinMap.{get, retain_keys, get-retain_keys}
 use Rattle.std.proofs.lemmas.Bool.{le-ltb, eq-eqb, ne_eqb}
 use Rattle.std.proofs.lemmas.Option.{none-some, same_Some}
 use borrow.Author.Tests.{ltb-false, eqb-true, eqb-false}
-use Rattle.hyper_rows.specs.Counts.{Counts, Place, plus, ewise_add, total}
-use Rattle.hyper_rows.proofs.CountLaws.{same_counts, get-ewise_add, total-ewise_add, exact_places}
+use Rattle.hyper_matrix.specs.Counts.{Counts, Place, plus, ewise_add, total}
+use Rattle.hyper_matrix.proofs.CountLaws.{same_counts, get-ewise_add, total-ewise_add, exact_places}
 use Rattle.matrix_difference.specs.Difference.{left_over, minus, IsDifference, HasFewerZeros}
 
 -- of two counts, by the tests

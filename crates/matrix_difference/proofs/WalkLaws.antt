@@ -8,13 +8,13 @@ use Rattle.std.proofs.lemmas.Option.{none-some, same_Some}
 use Rattle.cells.specs.declared.cell.Cell.{Cell}
 use Rattle.cells.specs.Bounds.{AreWithin}
 use Rattle.cells.specs.Order.{Rise}
-use Rattle.hyper_rows.specs.Counts.{Place, place_cmp, plus}
-use Rattle.hyper_rows.specs.Cells.{entry_of, place_of, built_of}
-use Rattle.hyper_rows.specs.Places.{Less, AllPlaces}
-use Rattle.hyper_rows.proofs.CountLaws.{places_total, exact_places, tied, less_not_equal, T_first, T_second, T_both}
-use Rattle.hyper_rows.proofs.CountLaws.{gathered, get-built}
-use Rattle.hyper_rows.proofs.SortedListLaws.{same_tie}
-use Rattle.hyper_rows.proofs.PlaceOrderLaws.{to_all, of_all, before_before, all_map, rises, sorted_rising}
+use Rattle.hyper_matrix.specs.Counts.{Place, place_cmp, plus}
+use Rattle.hyper_matrix.specs.Cells.{entry_of, place_of, built_of}
+use Rattle.hyper_matrix.specs.Places.{Less, AllPlaces}
+use Rattle.hyper_matrix.proofs.CountLaws.{places_total, exact_places, tied, less_not_equal, T_first, T_second, T_both}
+use Rattle.hyper_matrix.proofs.CountLaws.{gathered, get-built}
+use Rattle.hyper_matrix.proofs.SortedListLaws.{same_tie}
+use Rattle.hyper_matrix.proofs.PlaceOrderLaws.{to_all, of_all, before_before, all_map, rises, sorted_rising}
 use Rattle.hyper_matrix.proofs.MatrixLaws.{cells_within, entries_within}
 use Rattle.matrix_difference.specs.Difference.{left_over, minus, IsDifference, IsFirstFall}
 use Rattle.matrix_difference.specs.Walk.{step_of, by_order, counted, with_more, goes_on, walked}

@@ -7,8 +7,8 @@
 --                         entry
 use Rattle.std.specs.Prelude.{◌≡◌, ◌⊎◌, ℕ, ◌-◌, nat_lt, nat_eq, if◌then◌else◌, Option, Some, None, IsSome}
 use Rattle.std.specs.FinMap.{get}
-use Rattle.hyper_rows.specs.Counts.{Counts, Place}
-use Rattle.hyper_rows.specs.Places.{Less}
+use Rattle.hyper_matrix.specs.Counts.{Counts, Place}
+use Rattle.hyper_matrix.specs.Places.{Less}
 
 -- of two counts
 abbrev pub left_over : ℕ → ℕ → Option (Option ℕ)

@@ -5,8 +5,8 @@ use Rattle.std.specs.Prelude.{ℕ, ◌-◌, nat_lt, nat_eq, if◌then◌else◌,
 use Rattle.std.specs.Prelude.{Result, Ok, Err}
 use Rattle.std.specs.declared.cmp.Ordering.{Ordering}
 use Rattle.cells.specs.declared.cell.Cell.{Cell}
-use Rattle.hyper_rows.specs.Counts.{Place, place_cmp}
-use Rattle.hyper_rows.specs.Cells.{place_of}
+use Rattle.hyper_matrix.specs.Counts.{Place, place_cmp}
+use Rattle.hyper_matrix.specs.Cells.{place_of}
 use Rattle.matrix_difference.specs.declared.walk.Step.{Step}
 use Rattle.matrix_difference.specs.declared.walk.Step.TheVariants.{Falls, Keep, Meet}
 

@@ -2,7 +2,7 @@
 ghost use Rattle.std.specs.Prelude.{◌≡◌, ◌++◌, ◌∷◌, [], ℕ, slice_get, Err, IfOk, OnOk};
 ghost use Rattle.cells.specs.Bounds.{AreWithin};
 ghost use Rattle.cells.specs.Order.{Rise};
-ghost use Rattle.hyper_rows.specs.Cells.{built_of};
+ghost use Rattle.hyper_matrix.specs.Cells.{built_of};
 ghost use Rattle.matrix_difference.specs.Difference.{IsDifference, IsFirstFall};
 
 use crate::walk::{Step, step_over};

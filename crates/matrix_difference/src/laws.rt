@@ -1,7 +1,7 @@
 //! Laws of the difference of two matrices.
 ghost use Rattle.std.specs.Prelude.{◌≡◌, ◌+◌, None};
 ghost use Rattle.std.specs.FinMap.{get};
-ghost use Rattle.hyper_rows.specs.Counts.{Counts, Place, ewise_add, total};
+ghost use Rattle.hyper_matrix.specs.Counts.{Counts, Place, ewise_add, total};
 ghost use Rattle.matrix_difference.specs.Difference.{minus, IsDifference, HasFewerZeros};
 
 /// Added to the earlier matrix, the difference gives the later one; so its total is what the total has risen by. There

@@ -1,7 +1,7 @@
 //! A cell of the later list beside the next one of the earlier list.
 ghost use Rattle.std.specs.Prelude.{◌≡◌};
-ghost use Rattle.hyper_rows.specs.Counts.{place_cmp};
-ghost use Rattle.hyper_rows.specs.Cells.{place_of};
+ghost use Rattle.hyper_matrix.specs.Counts.{place_cmp};
+ghost use Rattle.hyper_matrix.specs.Cells.{place_of};
 ghost use Rattle.matrix_difference.specs.Walk.{step_of, counted};
 
 use cells::Cell;

@@ -10,10 +10,10 @@ use Rattle.std.proofs.lemmas.Bool.{lt-ltb, le-ltb, cases_lt, false≢true}
 use Rattle.std.proofs.lemmas.List.Recursion.{is_sum_by}
 use Rattle.std.proofs.lemmas.List.Sorted.{sum_by-IsPermutation, IsPermutation-refl, IsPermutation-cons}
 use Rattle.std.proofs.lemmas.List.Sorted.{IsPermutation-trans, IsPermutation-middle}
-use Rattle.hyper_rows.specs.Counts.{Place, place_cmp, ewise_add, built, plus}
-use Rattle.hyper_rows.specs.Cells.{entry_of, place_of}
-use Rattle.hyper_rows.proofs.CountLaws.{same_counts, get-ewise_add, get-built, gathered, built-append, ewise_add_assoc}
-use Rattle.hyper_rows.proofs.CountLaws.{ewise_add_comm, ewise_add-empty, T_first, T_second}
+use Rattle.hyper_matrix.specs.Counts.{Place, place_cmp, ewise_add, built, plus}
+use Rattle.hyper_matrix.specs.Cells.{entry_of, place_of}
+use Rattle.hyper_matrix.proofs.CountLaws.{same_counts, get-ewise_add, get-built, gathered, built-append, ewise_add_assoc}
+use Rattle.hyper_matrix.proofs.CountLaws.{ewise_add_comm, ewise_add-empty, T_first, T_second}
 use Rattle.merged_cells.specs.declared.front.Front.{Front}
 use Rattle.merged_cells.specs.Fronts.{front_cmp, left_of, fronts_of, fronts_sum, cells_left, AreRising, NoneBefore}
 use Rattle.merged_cells.specs.Fronts.{AreFronts, Pulls}

@@ -12,15 +12,14 @@ use Rattle.std.specs.FinMap.{len-entries, len-empty, empty_of_len}
 use Rattle.std.proofs.lemmas.Bool.{cases_order}
 use Rattle.cells.specs.declared.cell.Cell.{Cell}
 use Rattle.cells.proofs.OrderLaws.{less_place}
-use Rattle.hyper_rows.specs.Counts.{Place, place_cmp, Counts, ewise_add, built, total, plus, count_sum}
-use Rattle.hyper_rows.specs.Cells.{entry_of, place_of}
-use Rattle.hyper_rows.specs.Places.{Less, AllPlaces}
-use Rattle.hyper_rows.proofs.BuildLaws.{not_below}
-use Rattle.hyper_rows.proofs.CountLaws.{places_total, same_counts, get-ewise_add, get-built, built-append}
-use Rattle.hyper_rows.proofs.CountLaws.{ewise_add_assoc, ewise_add_comm, ewise_add-empty, T_both, total-ewise_add}
-use Rattle.hyper_rows.proofs.CountLaws.{total-built, total-empty}
-use Rattle.hyper_rows.proofs.SortedListLaws.{entries-in_order, built-in_order, places_of_sum, places_of_built}
-use Rattle.hyper_rows.proofs.PlaceOrderLaws.{before_first, before_from, of_all}
+use Rattle.hyper_matrix.specs.Counts.{Place, place_cmp, Counts, ewise_add, built, total, plus, count_sum}
+use Rattle.hyper_matrix.specs.Cells.{entry_of, place_of}
+use Rattle.hyper_matrix.specs.Places.{Less, AllPlaces}
+use Rattle.hyper_matrix.proofs.PlaceOrderLaws.{not_below, before_first, before_from, of_all}
+use Rattle.hyper_matrix.proofs.CountLaws.{places_total, same_counts, get-ewise_add, get-built, built-append}
+use Rattle.hyper_matrix.proofs.CountLaws.{ewise_add_assoc, ewise_add_comm, ewise_add-empty, T_both, total-ewise_add}
+use Rattle.hyper_matrix.proofs.CountLaws.{total-built, total-empty}
+use Rattle.hyper_matrix.proofs.SortedListLaws.{entries-in_order, built-in_order, places_of_sum, places_of_built}
 use Rattle.merged_cells.specs.declared.front.Front.{Front}
 use Rattle.merged_cells.specs.Fronts.{front_cmp, left_of, fronts_of, fronts_sum, AreRising, NoneBefore, AreFronts}
 use Rattle.merged_cells.specs.Fronts.{AreSources, IsMerge, IsElsewhere}

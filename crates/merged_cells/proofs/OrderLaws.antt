@@ -8,8 +8,8 @@ use Rattle.std.proofs.lemmas.Bool.{false≢true}
 use Rattle.std.proofs.lemmas.Cmp.{upto}
 use Rattle.std.proofs.lemmas.List.Elements.{All-head, All-tail, All-cons}
 use Rattle.std.proofs.lemmas.List.Sorted.{All-permutation}
-use Rattle.hyper_rows.specs.Counts.{Place, place_cmp}
-use Rattle.hyper_rows.proofs.CountLaws.{places_total}
+use Rattle.hyper_matrix.specs.Counts.{Place, place_cmp}
+use Rattle.hyper_matrix.proofs.CountLaws.{places_total}
 
 reversed : (r : Ordering) → is_lt (ordering_reverse r) ≡ is_gt r
 reversed Ordering.Less = refl

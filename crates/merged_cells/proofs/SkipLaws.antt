@@ -10,14 +10,14 @@ use Rattle.std.proofs.lemmas.List.Sorted.{IsPermutation-refl}
 use Rattle.std.specs.FinMap.{get, entries, entries_sorted, from_sorted, is_sorted, get-entries, get-from_sorted}
 use Rattle.std.specs.FinMap.{entries-from_sorted}
 use Rattle.std.specs.FinMap.Entries.{find-where_key, is_sorted-where_key}
-use Rattle.hyper_rows.specs.Counts.{Place, place_cmp, Counts, built, plus, count_sum, total}
-use Rattle.hyper_rows.specs.Cells.{entry_of, place_of}
-use Rattle.hyper_rows.specs.Places.{Less}
-use Rattle.hyper_rows.specs.Search.{is_before, cells_from}
-use Rattle.hyper_rows.proofs.CountLaws.{exact_places, same_counts, get-ewise_add, get-built, gathered, T_first}
-use Rattle.hyper_rows.proofs.CountLaws.{T_second}
-use Rattle.hyper_rows.proofs.PlaceOrderLaws.{all_map, to_all}
-use Rattle.hyper_rows.proofs.SkipLaws.{AllFrom, all_from, still_behind, sorted_from, fewer_from}
+use Rattle.hyper_matrix.specs.Counts.{Place, place_cmp, Counts, built, plus, count_sum, total}
+use Rattle.hyper_matrix.specs.Cells.{entry_of, place_of}
+use Rattle.hyper_matrix.specs.Places.{Less}
+use Rattle.hyper_matrix.specs.Search.{is_before, cells_from}
+use Rattle.hyper_matrix.proofs.CountLaws.{exact_places, same_counts, get-ewise_add, get-built, gathered, T_first}
+use Rattle.hyper_matrix.proofs.CountLaws.{T_second}
+use Rattle.hyper_matrix.proofs.PlaceOrderLaws.{all_map, to_all}
+use Rattle.hyper_matrix.proofs.SkipLaws.{AllFrom, all_from, still_behind, sorted_from, fewer_from}
 use Rattle.hyper_matrix.proofs.SearchLaws.{before_until, before_other}
 use Rattle.merged_cells.specs.declared.front.Front.{Front}
 use Rattle.merged_cells.specs.Fronts.{front_cmp, left_of, fronts_of, fronts_sum, cells_left, AreRising, NoneBefore}

@@ -13,9 +13,9 @@ use Rattle.std.specs.List.{AllByRecursion}
 use Rattle.std.specs.BinaryHeap.{IsHeap}
 use Rattle.std.specs.FinMap.{empty, entries, is_sorted}
 use Rattle.cells.specs.declared.cell.Cell.{Cell}
-use Rattle.hyper_rows.specs.Counts.{Place, place_cmp, Counts, ewise_add, built, total}
-use Rattle.hyper_rows.specs.Cells.{entry_of, place_of}
-use Rattle.hyper_rows.specs.Search.{is_before, cells_from}
+use Rattle.hyper_matrix.specs.Counts.{Place, place_cmp, Counts, ewise_add, built, total}
+use Rattle.hyper_matrix.specs.Cells.{entry_of, place_of}
+use Rattle.hyper_matrix.specs.Search.{is_before, cells_from}
 use Rattle.merged_cells.specs.declared.front.Front.{Front}
 
 -- the front with the lower place is the greater one

@@ -5,9 +5,9 @@ ghost use Rattle.std.proofs.Common.{rules};
 ghost use Rattle.std.specs.Cmp.{partial_order_from_own_ties};
 ghost use Rattle.std.specs.Cmp.Rules.{comparing};
 ghost use Rattle.std.specs.Ordering.{nat_cmp, on, flip_args, then_cmp, as_partial_cmp, eq_of_both};
-ghost use Rattle.hyper_rows.specs.Cells.{entry_of};
-ghost use Rattle.hyper_rows.specs.Counts.{place_cmp};
-ghost use Rattle.hyper_rows.specs.Search.{cells_from};
+ghost use Rattle.hyper_matrix.specs.Cells.{entry_of};
+ghost use Rattle.hyper_matrix.specs.Counts.{place_cmp};
+ghost use Rattle.hyper_matrix.specs.Search.{cells_from};
 
 use cells::Cell;
 use hyper_matrix::Cells;

@@ -5,16 +5,16 @@ ghost use Rattle.std.specs.FinMap.{entries, empty};
 ghost use Rattle.std.specs.Iterator.{YieldsFirstBy, item_count};
 ghost use Rattle.std.specs.List.Sorted.{IsPermutation};
 ghost use Rattle.hyper_matrix.specs.Counts.{ewise_add, total};
-ghost use Rattle.hyper_rows.specs.Cells.{place_of, entry_of};
+ghost use Rattle.hyper_matrix.specs.Cells.{place_of, entry_of};
 ghost use Rattle.merged_cells.specs.Within.{LieWithin};
-ghost use Rattle.hyper_rows.specs.Search.{cells_from};
+ghost use Rattle.hyper_matrix.specs.Search.{cells_from};
 ghost use Rattle.merged_cells.specs.Fronts.{front_cmp, fronts_of, fronts_sum, AreFronts, NoneBefore, Pulls, Skips};
 ghost use Rattle.merged_cells.specs.Fronts.{IsElsewhere, IsFrontBefore};
 
 use crate::front::Front;
 use cells::Cell;
 use hyper_matrix::Hyper;
-use hyper_rows::is_before;
+use hyper_matrix::is_before;
 use std::alloc::{AllocError, Global};
 use std::collections::BinaryHeap;
 use std::marker::Model;
@@ -31,7 +31,7 @@ pub struct Sources<'a> {
 
 impl<'a> Model for Sources<'a> {
     ghost use Rattle.std.specs.BinaryHeap.{heap_items};
-    ghost use Rattle.hyper_rows.specs.Counts.{Counts, coded_counts};
+    ghost use Rattle.hyper_matrix.specs.Counts.{Counts, coded_counts};
 
     ghost Value = { Counts };
 
@@ -59,7 +59,7 @@ pub struct MergedCells<'a> {
 
 impl<'a> Model for MergedCells<'a> {
     ghost use Rattle.std.specs.BinaryHeap.{heap_items};
-    ghost use Rattle.hyper_rows.specs.Counts.{Counts, coded_counts};
+    ghost use Rattle.hyper_matrix.specs.Counts.{Counts, coded_counts};
 
     ghost Value = { Counts };
 

@@ -5,8 +5,8 @@ use Rattle.std.proofs.lemmas.List.{length-map}
 use Rattle.cells.specs.declared.cell.Cell.{Cell}
 use Rattle.cells.specs.Order.{Rise}
 use Rattle.mm_text.specs.Canonical.{canonical}
-use Rattle.hyper_rows.proofs.PlaceOrderLaws.{sorted_rising}
-use Rattle.hyper_rows.proofs.SortedListLaws.{built-in_order, entries-in_order, len-in_order}
+use Rattle.hyper_matrix.proofs.PlaceOrderLaws.{sorted_rising}
+use Rattle.hyper_matrix.proofs.SortedListLaws.{built-in_order, entries-in_order, len-in_order}
 use Rattle.hyper_matrix.specs.Cells.{built_of, entry_of}
 use Rattle.hyper_matrix.specs.Counts.{Counts}
 use Rattle.hyper_matrix.specs.Matrix.{matrix}

@@ -6,8 +6,8 @@ use Rattle.std.specs.FinMap.{entries}
 use Rattle.hyper_matrix.specs.Counts.{Place, part}
 use Rattle.hyper_matrix.proofs.PartLaws.{entries-part}
 use Rattle.cells.specs.declared.cell.Cell.{Cell}
-use Rattle.hyper_rows.specs.Cells.{entry_of}
-use Rattle.hyper_rows.specs.Parts.{part_entries}
+use Rattle.hyper_matrix.specs.Cells.{entry_of}
+use Rattle.hyper_matrix.specs.Parts.{part_entries}
 use Rattle.batch_store.specs.Accepted.{Accepted}
 use Rattle.batch_store.specs.Shards.{Holding}
 use Rattle.plain_engine.specs.Standing.{AreTogether}

@@ -8,7 +8,7 @@ use Rattle.std.specs.Ordering.{is_eq}
 use Rattle.std.specs.BTreeSet.{BTreeSet, contains, Updates}
 use Rattle.std.specs.List.{IsDistinct, AllByRecursion, list_any}
 use Rattle.std.proofs.lemmas.List.Folds.{list_any-append}
-use Rattle.hyper_rows.proofs.CellLaws.{same_place}
+use Rattle.hyper_matrix.proofs.CellLaws.{same_place}
 use Rattle.std.proofs.lemmas.Bool.{le-ltb, lt-leb}
 use Rattle.std.proofs.lemmas.Option.{none-some}
 use Rattle.batch_store.specs.declared.verdict.Entry.{Entry}

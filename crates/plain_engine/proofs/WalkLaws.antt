@@ -6,7 +6,7 @@ use Rattle.cells.specs.declared.cell.Cell.{Cell}
 use Rattle.hyper_matrix.specs.Counts.{Place, place_cmp, Counts, built}
 use Rattle.hyper_matrix.specs.Cells.{entry_of, built_of}
 use Rattle.hyper_matrix.proofs.CountLaws.{places_total, same_counts}
-use Rattle.hyper_rows.proofs.SortedListLaws.{built-in_order}
+use Rattle.hyper_matrix.proofs.SortedListLaws.{built-in_order}
 use Rattle.merged_cells.specs.Within.{LieWithin}
 use Rattle.hyper_matrix.specs.Shared.{LiesWithin}
 use Rattle.std.specs.List.{AllByRecursion}

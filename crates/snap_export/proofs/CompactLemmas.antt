@@ -9,9 +9,9 @@ use Rattle.std.specs.List.Sorted.{IsStrictlyIncreasing}
 use Rattle.cells.specs.declared.cell.Cell.{Cell}
 use Rattle.cells.specs.Bounds.{AreWithin, IsDimension}
 use Rattle.cells.specs.Sums.{stands_at, sum_at, cell_total}
-use Rattle.hyper_rows.proofs.BuiltOfLaws.{told_cells, get-built_of}
+use Rattle.hyper_matrix.proofs.BuiltOfLaws.{told_cells, get-built_of}
 use Rattle.cells.specs.Order.{Rise}
-use Rattle.hyper_rows.proofs.PlaceOrderLaws.{rises}
+use Rattle.hyper_matrix.proofs.PlaceOrderLaws.{rises}
 use Rattle.hyper_matrix.proofs.PartLaws.{built-entries}
 use Rattle.hyper_matrix.specs.Counts.{Counts, Place, place_cmp, built}
 use Rattle.hyper_matrix.specs.Cells.{built_of, cells_at, entry_of}

@@ -7,7 +7,7 @@ use Rattle.std.specs.Ordering.{is_eq}
 use Rattle.std.specs.BTreeSet.{BTreeSet, contains, Updates}
 use Rattle.byte_io.specs.declared.fault.DeviceFault.{DeviceFault}
 use Rattle.cells.specs.declared.cell.Cell.{Cell}
-use Rattle.hyper_rows.proofs.CellLaws.{same_place}
+use Rattle.hyper_matrix.proofs.CellLaws.{same_place}
 use Rattle.hyper_matrix.specs.Counts.{Counts}
 use Rattle.hyper_matrix.specs.Cells.{built_of}
 use Rattle.hyper_matrix.specs.Matrix.{Matrix, matrix}

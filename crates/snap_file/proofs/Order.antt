@@ -9,8 +9,8 @@ use Rattle.std.specs.Cmp.{nat_cmp_is}
 use Rattle.std.proofs.lemmas.Bool.Decides.{nat_tests}
 use Rattle.hyper_matrix.specs.Counts.{Place, Counts, place_cmp, built, ewise_add}
 use Rattle.hyper_matrix.specs.Cells.{entry_of}
-use Rattle.hyper_rows.proofs.CountLaws.{same_counts, get-built, gathered-rising, T_first, T_second, T_both}
-use Rattle.hyper_rows.proofs.CountLaws.{ewise_add_comm, ewise_add-empty}
+use Rattle.hyper_matrix.proofs.CountLaws.{same_counts, get-built, gathered-rising, T_first, T_second, T_both}
+use Rattle.hyper_matrix.proofs.CountLaws.{ewise_add_comm, ewise_add-empty}
 use Rattle.cells.proofs.OrderLaws.{less_place}
 use Rattle.snap_file.specs.Table.{is_below}
 use Rattle.snap_file.proofs.Again.{RiseFrom, cell_of}

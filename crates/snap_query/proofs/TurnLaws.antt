@@ -4,9 +4,9 @@ use Rattle.std.specs.FinMap.{entries}
 use Rattle.cells.specs.declared.cell.Cell.{Cell}
 use Rattle.cells.specs.Order.{Rise}
 use Rattle.cells.specs.Sums.{sum_at}
-use Rattle.hyper_rows.proofs.BuiltOfLaws.{built_of-same}
-use Rattle.hyper_rows.proofs.PlaceOrderLaws.{sorted_rising}
-use Rattle.hyper_rows.proofs.SortedListLaws.{built-in_order, entries-in_order}
+use Rattle.hyper_matrix.proofs.BuiltOfLaws.{built_of-same}
+use Rattle.hyper_matrix.proofs.PlaceOrderLaws.{sorted_rising}
+use Rattle.hyper_matrix.proofs.SortedListLaws.{built-in_order, entries-in_order}
 use Rattle.hyper_matrix.specs.Counts.{Place, built}
 use Rattle.hyper_matrix.specs.Cells.{built_of, cell_total, entry_of}
 use Rattle.snap_query.specs.Turned.{turned_cell}

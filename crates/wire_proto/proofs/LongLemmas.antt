@@ -10,8 +10,8 @@ use Rattle.std.proofs.lemmas.List.{append_assoc, take_all, length-take}
 use Rattle.std.proofs.lemmas.List.Concat.{flat_map-cons}
 use Rattle.std.proofs.lemmas.List.Folds.{flat_map-map}
 use Rattle.cells.specs.declared.cell.Cell.{Cell}
-use Rattle.hyper_rows.specs.Counts.{Place}
-use Rattle.hyper_rows.specs.Cells.{entry_of}
+use Rattle.hyper_matrix.specs.Counts.{Place}
+use Rattle.hyper_matrix.specs.Cells.{entry_of}
 use Rattle.hyper_matrix.specs.Matrix.{Matrix}
 use Rattle.cell_queries.specs.Ranges.{cells_in, page_of}
 use Rattle.cell_queries.specs.Tops.{IsTop}

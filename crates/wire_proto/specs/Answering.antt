@@ -16,7 +16,7 @@ use Rattle.mm_text.specs.Texts.{Spells, FirstFault}
 use Rattle.mm_text.specs.declared.limits.TextLimits.{TextLimits}
 use Rattle.mm_text.specs.declared.fault.MmKind.{MmKind}
 use Rattle.mm_text.specs.declared.fault.MmKind.TheVariants as kinds
-use Rattle.hyper_rows.specs.declared.search.RowSum.{RowSum}
+use Rattle.hyper_matrix.specs.declared.row_sum.RowSum.{RowSum}
 use Rattle.hyper_matrix.specs.Matrix.{Matrix, matrix}
 use Rattle.hyper_matrix.specs.Cells.{built_of, cell_total}
 use Rattle.batch_store.specs.Setups.{Setting}

@@ -4,7 +4,7 @@
 --     settled         what an accepted put is answered, once this is known of its place
 use Rattle.std.specs.Prelude.{ℕ, Option, Result, Ok, Err}
 use Rattle.std.specs.declared.alloc.AllocError.{AllocError}
-use Rattle.hyper_rows.specs.declared.search.RowSum.{RowSum}
+use Rattle.hyper_matrix.specs.declared.row_sum.RowSum.{RowSum}
 use Rattle.hyper_matrix.specs.Matrix.{Matrix}
 use Rattle.batch_store.specs.Batches.{Submission}
 use Rattle.batch_store.specs.declared.verdict.Kept.{Kept}

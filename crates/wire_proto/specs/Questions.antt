@@ -12,7 +12,7 @@
 --     Tells               a request is answered so of a sum: only a Range, a Top and a Groups are
 use Rattle.std.specs.Prelude.{◌≡◌, ℕ, ◌<◌, ◌≤◌, ◌==◌, Bool, List, ◌∷◌, ◌++◌, length, flat_map, nat_lt, if◌then◌else◌}
 use Rattle.std.specs.FinMap.{entries}
-use Rattle.hyper_rows.specs.Counts.{Place}
+use Rattle.hyper_matrix.specs.Counts.{Place}
 use Rattle.hyper_matrix.specs.Matrix.{Matrix}
 use Rattle.batch_store.specs.Setups.{Setting}
 use Rattle.cell_queries.specs.Groups.{grouped}

@@ -3,7 +3,7 @@ use Rattle.std.specs.Prelude.{ℕ, nat_lt, if◌then◌else◌, List, [], ◌∷
 use Rattle.std.specs.Prelude.{Ok, Err}
 use Rattle.std.specs.Int.{w16, to_be_bytes}
 use Rattle.std.specs.declared.alloc.AllocError.{AllocError}
-use Rattle.hyper_rows.specs.declared.search.RowSum.{RowSum}
+use Rattle.hyper_matrix.specs.declared.row_sum.RowSum.{RowSum}
 use Rattle.hyper_matrix.specs.Matrix.{Matrix}
 use Rattle.batch_store.specs.declared.verdict.Kept.{Kept}
 use Rattle.plain_engine.specs.declared.status.Status.{Status}

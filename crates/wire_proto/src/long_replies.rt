@@ -1,7 +1,7 @@
 //! The replies that tell cells or rows, as frames: as long as what was asked for, and made before the first byte is
 //! sent.
 ghost use Rattle.std.specs.Prelude.{◌≡◌, ℕ, ◌+◌, ◌*◌, ◌≤◌, ◌++◌, ◌∷◌, [], List, map, flat_map, length, IfOk, OnOk};
-ghost use Rattle.hyper_rows.specs.Cells.{entry_of};
+ghost use Rattle.hyper_matrix.specs.Cells.{entry_of};
 ghost use Rattle.wire_frames.specs.Frames.{number, head_bytes};
 ghost use Rattle.wire_proto.specs.Questions.{cells_reply as cells_frame, rows_reply as rows_frame, entry_bytes, row_bytes};
 ghost use Rattle.wire_proto.specs.Questions.{more_byte};

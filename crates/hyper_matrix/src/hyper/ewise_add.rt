@@ -4,8 +4,8 @@
 ghost use Rattle.std.specs.Prelude.{◌≡◌, ℕ, ◌+◌, ◌<◌, ◌^◌, [], IfOk};
 ghost use Rattle.cells.specs.Bounds.{AreWithin};
 ghost use Rattle.cells.specs.Order.{Rise};
-ghost use Rattle.hyper_rows.specs.Counts.{ewise_add, total};
-ghost use Rattle.hyper_rows.specs.Cells.{built_of, cell_total};
+ghost use Rattle.hyper_matrix.specs.Counts.{ewise_add, total};
+ghost use Rattle.hyper_matrix.specs.Cells.{built_of, cell_total};
 ghost use Rattle.hyper_matrix.specs.Merge.{AppendsSum};
 
 use crate::hyper::Hyper;

@@ -7,7 +7,7 @@ ghost use Rattle.std.specs.Prelude.{◌≡◌, ◌<◌, ◌≤◌, ◌⊎◌, �
 ghost use Rattle.std.specs.Option.{option_map};
 ghost use Rattle.std.specs.FinMap.{get, entries};
 ghost use Rattle.cells.specs.Bounds.{AreWithin};
-ghost use Rattle.hyper_rows.specs.Cells.{entry_of};
+ghost use Rattle.hyper_matrix.specs.Cells.{entry_of};
 ghost use Rattle.hyper_matrix.specs.RowOf.{IsFirst, HasNoneFrom};
 
 use crate::hyper::Hyper;

@@ -1,11 +1,11 @@
 //! `C(i,j) = A(i,j)` where `i mod k = s`: `GrB_select` by row, as one shard of k has them.
 ghost use Rattle.std.specs.Prelude.{◌≡◌, ◌<◌, ◌++◌, OnOk, IfOk};
-ghost use Rattle.hyper_rows.specs.Counts.{part};
+ghost use Rattle.hyper_matrix.specs.Counts.{part};
 ghost use Rattle.hyper_matrix.specs.Parts.{shard_cells};
 
 use crate::hyper::Hyper;
 use cells::Cell;
-use hyper_rows::shard_of;
+use crate::shard::shard_of;
 use std::alloc::{AllocError, Global};
 
 // Appends the cells that lie in the shard, in their order.

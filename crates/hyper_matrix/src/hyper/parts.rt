@@ -5,7 +5,7 @@
 ghost use Rattle.std.specs.Prelude.{◌≡◌, ℕ, ◌+◌, ◌<◌, ◌≤◌, ◌^◌, IfOk, length, slice_index, slice_range};
 ghost use Rattle.cells.specs.Bounds.{AreWithin};
 ghost use Rattle.cells.specs.Order.{Rise};
-ghost use Rattle.hyper_rows.specs.Cells.{built_of, cell_total};
+ghost use Rattle.hyper_matrix.specs.Cells.{built_of, cell_total};
 ghost use Rattle.hyper_matrix.specs.Matrix.{matrix};
 ghost use Rattle.hyper_matrix.specs.Parts.{parts_below, shard_cells, count_below, InLine};
 
@@ -14,7 +14,7 @@ use crate::hyper::Hyper;
 use crate::limits::SMALL_SHARE;
 use crate::piece::Piece;
 use cells::{Cell, total_of};
-use hyper_rows::shard_of;
+use crate::shard::shard_of;
 use std::alloc::{AllocError, Global};
 
 // Counts the cells of each shard, of as many shards as there are counts.

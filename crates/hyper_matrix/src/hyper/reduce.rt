@@ -1,12 +1,12 @@
 //! `s = sum of A(i,j)`: `GrB_reduce` to a scalar with the plus monoid, of the whole matrix and of one row.
 ghost use Rattle.std.specs.Prelude.{◌≡◌, ◌<◌, ◌≤◌, ◌^◌};
 ghost use Rattle.std.specs.FinMap.{len};
-ghost use Rattle.hyper_rows.specs.Counts.{total};
+ghost use Rattle.hyper_matrix.specs.Counts.{total};
 ghost use Rattle.hyper_matrix.specs.RowOf.{row_of};
 
 use crate::hyper::Hyper;
 use crate::search;
-use hyper_rows::RowSum;
+use crate::row_sum::RowSum;
 
 impl Hyper {
     /// The sum of all counts, 0 for the empty matrix: `GrB_reduce` to a scalar with the plus monoid. Constant time.

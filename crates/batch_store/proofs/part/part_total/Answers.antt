@@ -2,7 +2,7 @@ use Rattle.std.proofs.Common.{◌∙◌, sym, ap, arith}
 use Rattle.std.proofs.lemmas.Bool.{eq-eqb}
 use Rattle.hyper_matrix.specs.Counts.{count_sum}
 use Rattle.hyper_matrix.specs.Cells.{entry_of}
-use Rattle.hyper_rows.specs.Parts.{part_entries}
+use Rattle.hyper_matrix.specs.Parts.{part_entries}
 use Rattle.hyper_matrix.proofs.PartLaws.{total-part, part_sum-more}
 use Rattle.batch_store.proofs.PartLaws.{part_of-le}
 use Rattle.batch_store.proofs.part.part_total.Goals as goal

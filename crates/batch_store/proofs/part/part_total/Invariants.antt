@@ -1,7 +1,7 @@
 use Rattle.std.proofs.Common.{◌≡◌, ◌+◌}
 use Rattle.hyper_matrix.specs.Counts.{count_sum}
 use Rattle.batch_store.specs.Parts.{part_of}
-use Rattle.hyper_rows.specs.Parts.{part_entries}
+use Rattle.hyper_matrix.specs.Parts.{part_entries}
 use Rattle.batch_store.proofs.part.part_total.Given as goal
 
 abbrev pub invariant-add : goal.invariant-add

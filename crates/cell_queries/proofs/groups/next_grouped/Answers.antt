@@ -1,4 +1,4 @@
-use Rattle.hyper_rows.specs.Cells.{entry_of}
+use Rattle.hyper_matrix.specs.Cells.{entry_of}
 use Rattle.cell_queries.proofs.GroupLaws.{ends_after}
 use Rattle.cell_queries.proofs.groups.next_grouped.Goals as goal
 

@@ -1,5 +1,5 @@
 use Rattle.std.proofs.Common.{sym, ◌∙◌, arith}
-use Rattle.hyper_rows.specs.Cells.{entry_of}
+use Rattle.hyper_matrix.specs.Cells.{entry_of}
 use Rattle.cell_queries.proofs.RangeLaws.{ends_behind, ends_outside, skipped_behind, skipped_fewer}
 use Rattle.cell_queries.proofs.range.next_in.Goals as goal
 

@@ -1,6 +1,6 @@
 use Rattle.std.proofs.Common.{◌≡◌, ◌<◌, T, length}
 use Rattle.std.specs.FinMap.{is_sorted}
-use Rattle.hyper_rows.specs.Counts.{place_cmp}
+use Rattle.hyper_matrix.specs.Counts.{place_cmp}
 use Rattle.cell_queries.specs.Ranges.{cells_in}
 use Rattle.cell_queries.proofs.range.next_in.Given as goal
 

@@ -1,6 +1,6 @@
 use Rattle.std.proofs.Common.{List, ◌++◌, map, ap, ◌∙◌, arith}
 use Rattle.cells.specs.declared.cell.Cell.{Cell}
-use Rattle.hyper_rows.specs.Cells.{entry_of}
+use Rattle.hyper_matrix.specs.Cells.{entry_of}
 use Rattle.cell_queries.specs.Ranges.{cells_in}
 use Rattle.cell_queries.proofs.RangeLaws.{skipped_first}
 use Rattle.cell_queries.proofs.range.range_of.Goals as goal

@@ -1,7 +1,7 @@
 use Rattle.std.proofs.Common.{◌≡◌, ◌≤◌, ◌-◌, ◌++◌, T, map, vec_len}
 use Rattle.std.specs.FinMap.{is_sorted}
-use Rattle.hyper_rows.specs.Counts.{place_cmp}
-use Rattle.hyper_rows.specs.Cells.{entry_of}
+use Rattle.hyper_matrix.specs.Counts.{place_cmp}
+use Rattle.hyper_matrix.specs.Cells.{entry_of}
 use Rattle.cell_queries.specs.Ranges.{cells_in}
 use Rattle.cell_queries.proofs.range.range_of.Given as goal
 

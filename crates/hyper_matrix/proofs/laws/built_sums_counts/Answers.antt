@@ -1,4 +1,4 @@
-use Rattle.hyper_rows.proofs.BuiltOfLaws.{built_counts}
+use Rattle.hyper_matrix.proofs.BuiltOfLaws.{built_counts}
 use Rattle.hyper_matrix.proofs.laws.built_sums_counts.Goals as goal
 
 pub returns : goal.returns

@@ -1,4 +1,4 @@
-use Rattle.hyper_rows.proofs.CountLaws.{ewise_add-empty}
+use Rattle.hyper_matrix.proofs.CountLaws.{ewise_add-empty}
 use Rattle.hyper_matrix.proofs.laws.empty_is_identity.Goals as goal
 
 pub returns : goal.returns

@@ -1,4 +1,4 @@
-use Rattle.hyper_rows.proofs.CountLaws.{get-ewise_add}
+use Rattle.hyper_matrix.proofs.CountLaws.{get-ewise_add}
 use Rattle.hyper_matrix.proofs.laws.sums_at_places.Goals as goal
 
 pub returns : goal.returns

@@ -1,6 +1,6 @@
 use Rattle.std.proofs.Common.{map}
-use Rattle.hyper_rows.specs.Cells.{entry_of}
-use Rattle.hyper_rows.proofs.PlaceOrderLaws.{sorted_rising}
+use Rattle.hyper_matrix.specs.Cells.{entry_of}
+use Rattle.hyper_matrix.proofs.PlaceOrderLaws.{sorted_rising}
 use Rattle.hyper_matrix.proofs.SearchLaws.{first_here, none_here, none_at_all}
 use Rattle.hyper_matrix.proofs.search.first_in_row.Goals as goal
 

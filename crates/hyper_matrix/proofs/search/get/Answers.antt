@@ -1,6 +1,6 @@
 use Rattle.std.proofs.Common.{map, inl, inr}
-use Rattle.hyper_rows.specs.Cells.{entry_of}
-use Rattle.hyper_rows.proofs.PlaceOrderLaws.{sorted_rising}
+use Rattle.hyper_matrix.specs.Cells.{entry_of}
+use Rattle.hyper_matrix.proofs.PlaceOrderLaws.{sorted_rising}
 use Rattle.hyper_matrix.proofs.SearchLaws.{get_here, get_other, get_none}
 use Rattle.hyper_matrix.proofs.search.get.Goals as goal
 use Rattle.hyper_matrix.proofs.search.get.Goals.{else-cell-row-via-then-cell-row+else-cell-col}

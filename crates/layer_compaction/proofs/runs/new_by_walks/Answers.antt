@@ -1,7 +1,7 @@
 use Rattle.std.proofs.Common.{◌++◌, T, map, sym, ap, subst, ◌∙◌}
 use Rattle.std.specs.FinMap.{is_sorted, entries, entries_sorted}
 use Rattle.hyper_matrix.specs.Cells.{entry_of}
-use Rattle.hyper_rows.specs.Counts.{place_cmp}
+use Rattle.hyper_matrix.specs.Counts.{place_cmp}
 use Rattle.layer_compaction.specs.Shared.{content, values, all_counts}
 use Rattle.layer_compaction.specs.Runs.{count_new}
 use Rattle.layer_compaction.proofs.runs.new_by_walks.Goals as goal

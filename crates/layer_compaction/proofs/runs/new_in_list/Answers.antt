@@ -3,7 +3,7 @@ use Rattle.std.proofs.lemmas.Grind.{common_steps}
 use Rattle.std.proofs.lemmas.List.{length-map, take_all}
 use Rattle.std.specs.FinMap.{is_sorted}
 use Rattle.hyper_matrix.specs.Cells.{entry_of}
-use Rattle.hyper_rows.specs.Counts.{place_cmp}
+use Rattle.hyper_matrix.specs.Counts.{place_cmp}
 use Rattle.layer_compaction.specs.Shared.{content, values, all_counts}
 use Rattle.layer_compaction.specs.Runs.{without}
 use Rattle.layer_compaction.proofs.LayerLemmas.{sum_more, length-counts}

@@ -2,7 +2,7 @@ use Rattle.std.proofs.Common.{[], refl, sym, ap, ◌∙◌}
 use Rattle.std.specs.FinMap.{entries}
 use Rattle.hyper_matrix.specs.Counts.{ewise_add}
 use Rattle.hyper_matrix.proofs.BuiltOfLaws.{built_of-none}
-use Rattle.hyper_rows.proofs.PlaceOrderLaws.{sorted_rising}
+use Rattle.hyper_matrix.proofs.PlaceOrderLaws.{sorted_rising}
 use Rattle.layer_compaction.specs.Shared.{content, values, all_counts}
 use Rattle.layer_compaction.specs.Runs.{count_new}
 use Rattle.layer_compaction.proofs.CountedLemmas.{entries-rising}

@@ -2,7 +2,7 @@ use Rattle.std.proofs.Common.{◌+◌, ◌<◌, T, length, map, get_or, sym, sub
 use Rattle.std.specs.FinMap.{is_sorted, entries_sorted}
 use Rattle.cells.specs.declared.cell.Cell.{Cell}
 use Rattle.hyper_matrix.specs.Cells.{entry_of}
-use Rattle.hyper_rows.specs.Counts.{place_cmp}
+use Rattle.hyper_matrix.specs.Counts.{place_cmp}
 use Rattle.layer_compaction.proofs.WalkLemmas.{Decides, decides-all, taken, behind}
 use Rattle.layer_compaction.proofs.WithoutLemmas.{KeptUpTo, kept_none, kept_same, kept_more, steps}
 use Rattle.layer_compaction.proofs.walk.keep_new.Goals as goal

@@ -1,7 +1,7 @@
 use Rattle.std.proofs.Common.{T, map, drop}
 use Rattle.std.specs.FinMap.{is_sorted}
 use Rattle.hyper_matrix.specs.Cells.{entry_of}
-use Rattle.hyper_rows.specs.Counts.{place_cmp}
+use Rattle.hyper_matrix.specs.Counts.{place_cmp}
 use Rattle.layer_compaction.specs.Runs.{left_with}
 use Rattle.layer_compaction.proofs.WalkLemmas.{Decides}
 use Rattle.layer_compaction.proofs.WithoutLemmas.{KeptUpTo}

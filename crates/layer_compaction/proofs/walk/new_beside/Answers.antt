@@ -1,7 +1,7 @@
 use Rattle.std.proofs.Common.{T, sym, ap, subst, ◌∙◌, arith}
 use Rattle.std.specs.FinMap.{is_sorted, entries_sorted}
 use Rattle.hyper_matrix.specs.Cells.{entry_of}
-use Rattle.hyper_rows.specs.Counts.{place_cmp}
+use Rattle.hyper_matrix.specs.Counts.{place_cmp}
 use Rattle.layer_compaction.specs.Runs.{count_new}
 use Rattle.layer_compaction.proofs.RunLemmas.{new_below, none_new, one_new}
 use Rattle.layer_compaction.proofs.WalkLemmas.{Decides, decides-all, taken, behind}

@@ -1,6 +1,6 @@
 use Rattle.std.proofs.Common.{◌≡◌, ◌+◌, T}
 use Rattle.std.specs.FinMap.{entries, is_sorted}
-use Rattle.hyper_rows.specs.Counts.{place_cmp}
+use Rattle.hyper_matrix.specs.Counts.{place_cmp}
 use Rattle.layer_compaction.specs.Runs.{count_new, left_with}
 use Rattle.layer_compaction.proofs.WalkLemmas.{Decides}
 use Rattle.layer_compaction.proofs.walk.new_beside.Given as goal

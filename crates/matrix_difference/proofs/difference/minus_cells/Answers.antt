@@ -1,7 +1,7 @@
 use Rattle.std.proofs.Common.{◌≡◌, ℕ, ◌+◌, List, drop, Option, subst, sym, ap, ◌∙◌, arith}
 use Rattle.cells.specs.declared.cell.Cell.{Cell}
-use Rattle.hyper_rows.specs.Counts.{Place}
-use Rattle.hyper_rows.specs.Cells.{built_of}
+use Rattle.hyper_matrix.specs.Counts.{Place}
+use Rattle.hyper_matrix.specs.Cells.{built_of}
 use Rattle.matrix_difference.specs.Difference.{IsFirstFall}
 use Rattle.matrix_difference.proofs.LoopLemmas.{falls_here, keeps, meets_none, meets_some, at_within, ends_well}
 use Rattle.matrix_difference.proofs.LoopLemmas.{ends_falling, joined}

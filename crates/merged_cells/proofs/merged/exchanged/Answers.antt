@@ -2,8 +2,8 @@ use Rattle.std.proofs.Common.{◌≡◌, ◌<◌, ◌∷◌, false, subst, refl,
 use Rattle.std.specs.Ordering.{is_lt}
 use Rattle.std.specs.BinaryHeap.{heap_items, heap_len}
 use Rattle.std.proofs.lemmas.Bool.{false≢true}
-use Rattle.hyper_rows.specs.Counts.{place_cmp}
-use Rattle.hyper_rows.specs.Cells.{place_of}
+use Rattle.hyper_matrix.specs.Counts.{place_cmp}
+use Rattle.hyper_matrix.specs.Cells.{place_of}
 use Rattle.merged_cells.specs.declared.front.Front.{Front}
 use Rattle.merged_cells.specs.Fronts.{NoneBefore}
 use Rattle.merged_cells.proofs.OrderLaws.{all_permuted, first_of_all, not_before, behind_not_before, turned}

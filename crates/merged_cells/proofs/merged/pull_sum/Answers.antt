@@ -1,8 +1,8 @@
 use Rattle.std.proofs.Common.{◌+◌, ◌≤◌, ◌∷◌, sym, ◌∙◌, subst, arith}
 use Rattle.std.specs.BinaryHeap.{heap_items}
 use Rattle.std.specs.FinMap.{entries}
-use Rattle.hyper_rows.specs.Counts.{Place, total}
-use Rattle.hyper_rows.specs.Cells.{entry_of}
+use Rattle.hyper_matrix.specs.Counts.{Place, total}
+use Rattle.hyper_matrix.specs.Cells.{entry_of}
 use Rattle.merged_cells.specs.Fronts.{fronts_of, fronts_sum, NoneBefore}
 use Rattle.merged_cells.proofs.MergeLaws.{sum_taken, sum_more, count_within, none_left_to_take}
 use Rattle.merged_cells.proofs.merged.pull_sum.Goals as goal

@@ -1,7 +1,7 @@
 use Rattle.std.proofs.Common.{◌≡◌, [], ◌∷◌}
 use Rattle.std.specs.BinaryHeap.{heap_items}
-use Rattle.hyper_rows.specs.Counts.{ewise_add, built}
-use Rattle.hyper_rows.specs.Cells.{place_of, entry_of}
+use Rattle.hyper_matrix.specs.Counts.{ewise_add, built}
+use Rattle.hyper_matrix.specs.Cells.{place_of, entry_of}
 use Rattle.merged_cells.specs.Fronts.{fronts_of, fronts_sum, cells_left, AreFronts, NoneBefore}
 use Rattle.merged_cells.proofs.merged.pull_sum.Given as goal
 

@@ -1,7 +1,7 @@
 use Rattle.std.proofs.Common.{◌≡◌}
 use Rattle.std.specs.BinaryHeap.{heap_items}
 use Rattle.std.specs.FinMap.{entries}
-use Rattle.hyper_rows.specs.Search.{cells_from}
+use Rattle.hyper_matrix.specs.Search.{cells_from}
 use Rattle.merged_cells.specs.Fronts.{fronts_of, fronts_sum, cells_left, AreFronts}
 use Rattle.merged_cells.proofs.merged.skip_fronts.Given as goal
 

@@ -1,6 +1,6 @@
 use Rattle.std.proofs.Common.{◌≡◌, ◌∙◌, ◌%◌, ◌∷◌, [], sym, ap, subst, arith, length}
-use Rattle.hyper_rows.specs.Cells.{entry_of}
-use Rattle.hyper_rows.specs.Parts.{part_entries}
+use Rattle.hyper_matrix.specs.Cells.{entry_of}
+use Rattle.hyper_matrix.specs.Parts.{part_entries}
 use Rattle.plain_engine.specs.Bases.{AreParts}
 use Rattle.plain_engine.proofs.BaseLaws.{parts_first, parts_next, parts_spent, cells_agree, cells_differ, heads}
 use Rattle.plain_engine.proofs.bases.are_parts.Goals as goal

@@ -1,7 +1,7 @@
 use Rattle.std.proofs.Common.{◌∙◌, sym, ap}
 use Rattle.std.specs.FinMap.{entries}
 use Rattle.hyper_matrix.specs.Counts.{part}
-use Rattle.hyper_rows.specs.Parts.{part_entries}
+use Rattle.hyper_matrix.specs.Parts.{part_entries}
 use Rattle.hyper_matrix.proofs.PartLaws.{entries-part}
 use Rattle.plain_engine.proofs.SameLaws.{same_counts_by_entries}
 use Rattle.plain_engine.proofs.same.is_part.Goals as goal

@@ -1,6 +1,6 @@
 use Rattle.std.proofs.Common.{◌≡◌, ◌↔◌}
 use Rattle.hyper_matrix.specs.Counts.{part}
-use Rattle.hyper_rows.specs.Parts.{part_entries}
+use Rattle.hyper_matrix.specs.Parts.{part_entries}
 use Rattle.plain_engine.proofs.same.is_part.Given as goal
 
 abbrev pub invariant-cells : goal.invariant-cells

@@ -1,7 +1,7 @@
 use Rattle.std.proofs.Common.{◌≡◌, ap, ◌∙◌, arith}
 use Rattle.hyper_matrix.specs.Counts.{total}
 use Rattle.hyper_matrix.specs.Matrix.{Matrix}
-use Rattle.hyper_rows.proofs.BuiltOfLaws.{total-built_of}
+use Rattle.hyper_matrix.proofs.BuiltOfLaws.{total-built_of}
 use Rattle.hyper_matrix.proofs.CountLaws.{total-ewise_add}
 use Rattle.batch_store.specs.Accepted.{list_sum}
 use Rattle.batch_store.proofs.SumLaws.{total-list_sum}

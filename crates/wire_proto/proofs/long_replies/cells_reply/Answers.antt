@@ -2,7 +2,7 @@ use Rattle.std.proofs.Common.{◌∙◌, ap, arith, map, ◌++◌, List}
 use Rattle.cells.specs.declared.cell.Cell.{Cell}
 use Rattle.std.proofs.lemmas.List.{length-map}
 use Rattle.std.specs.Prelude.{flat_map}
-use Rattle.hyper_rows.specs.Cells.{entry_of}
+use Rattle.hyper_matrix.specs.Cells.{entry_of}
 use Rattle.wire_proto.specs.Questions.{entry_bytes}
 use Rattle.wire_proto.proofs.LongLemmas.{cells_made}
 use Rattle.wire_proto.proofs.long_replies.cells_reply.Goals as goal

@@ -1,6 +1,6 @@
 use Rattle.std.proofs.Common.{◌≡◌, ◌++◌, take}
 use Rattle.std.specs.Prelude.{flat_map}
-use Rattle.hyper_rows.specs.Cells.{entry_of}
+use Rattle.hyper_matrix.specs.Cells.{entry_of}
 use Rattle.wire_proto.specs.Questions.{entry_bytes}
 use Rattle.wire_proto.proofs.long_replies.push_cells.Given as goal
 

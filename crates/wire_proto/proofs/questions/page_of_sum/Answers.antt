@@ -1,6 +1,6 @@
 use Rattle.std.proofs.Common.{List, ℕ, ◌≡◌, ◌≤◌, length, map, subst, sym, arith}
 use Rattle.std.specs.FinMap.{entries_sorted}
-use Rattle.hyper_rows.specs.Cells.{entry_of}
+use Rattle.hyper_matrix.specs.Cells.{entry_of}
 use Rattle.cell_queries.proofs.TopLaws.{ok_weaker}
 use Rattle.wire_proto.specs.Questions.{cells_reply}
 use Rattle.wire_proto.proofs.LongLemmas.{page_few, cells_short}

@@ -1,5 +1,5 @@
 use Rattle.std.proofs.Common.{map, ap, sym, ◌∙◌}
-use Rattle.hyper_rows.specs.Cells.{entry_of}
+use Rattle.hyper_matrix.specs.Cells.{entry_of}
 use Rattle.hyper_matrix.proofs.QueryLaws.{entries_are}
 use Rattle.hyper_matrix.proofs.hyper.Hyper.cells.Goals as goal
 

@@ -1,8 +1,8 @@
 use Rattle.std.proofs.Common.{sym, subst, ap, ◌∙◌}
 use Rattle.std.specs.Prelude.{MatchOption}
 use Rattle.cells.specs.Order.{Rise}
-use Rattle.hyper_rows.specs.Counts.{Counts}
-use Rattle.hyper_rows.specs.Cells.{built_of}
+use Rattle.hyper_matrix.specs.Counts.{Counts}
+use Rattle.hyper_matrix.specs.Cells.{built_of}
 use Rattle.hyper_matrix.specs.RowOf.{IsFirst, HasNoneFrom}
 use Rattle.hyper_matrix.proofs.QueryLaws.{counts_are, entry_within}
 use Rattle.hyper_matrix.proofs.hyper.Hyper.first_in_row.Goals as goal

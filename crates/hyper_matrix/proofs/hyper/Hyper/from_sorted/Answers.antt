@@ -1,5 +1,5 @@
 use Rattle.std.proofs.Common.{ap, ◌∙◌, arith}
-use Rattle.hyper_rows.proofs.BuiltOfLaws.{built_of-none}
+use Rattle.hyper_matrix.proofs.BuiltOfLaws.{built_of-none}
 use Rattle.hyper_matrix.specs.Matrix.{matrix}
 use Rattle.hyper_matrix.proofs.hyper.Hyper.from_sorted.Goals as goal
 

@@ -2,8 +2,8 @@ use Rattle.std.proofs.Common.{List, sym, subst, ap, ◌∙◌}
 use Rattle.std.specs.FinMap.{get}
 use Rattle.cells.specs.Order.{Rise}
 use Rattle.cells.specs.declared.cell.Cell.{Cell}
-use Rattle.hyper_rows.specs.Counts.{Counts}
-use Rattle.hyper_rows.specs.Cells.{built_of}
+use Rattle.hyper_matrix.specs.Counts.{Counts}
+use Rattle.hyper_matrix.specs.Cells.{built_of}
 use Rattle.hyper_matrix.proofs.QueryLaws.{counts_are, none_outside}
 use Rattle.hyper_matrix.proofs.hyper.Hyper.get.Goals as goal
 

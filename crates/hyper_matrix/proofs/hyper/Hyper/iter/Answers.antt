@@ -1,6 +1,6 @@
 use Rattle.std.proofs.Common.{sym, subst, ap, map, ◌∙◌}
 use Rattle.std.specs.List.{AllByRecursion}
-use Rattle.hyper_rows.specs.Cells.{entry_of}
+use Rattle.hyper_matrix.specs.Cells.{entry_of}
 use Rattle.hyper_matrix.specs.Matrix.{Matrix}
 use Rattle.hyper_matrix.specs.Shared.{LiesWithin}
 use Rattle.hyper_matrix.proofs.MatrixLaws.{entries_within}

@@ -2,8 +2,8 @@ use Rattle.std.proofs.Common.{List, ap, sym, subst, ◌∙◌, arith}
 use Rattle.cells.specs.Bounds.{AreWithin}
 use Rattle.cells.specs.Order.{Rise}
 use Rattle.cells.specs.declared.cell.Cell.{Cell}
-use Rattle.hyper_rows.specs.Counts.{total}
-use Rattle.hyper_rows.specs.Cells.{built_of, cell_total}
+use Rattle.hyper_matrix.specs.Counts.{total}
+use Rattle.hyper_matrix.specs.Cells.{built_of, cell_total}
 use Rattle.hyper_matrix.specs.Matrix.{Matrix, matrix}
 use Rattle.hyper_matrix.specs.Parts.{shard_part}
 use Rattle.hyper_matrix.proofs.MatrixLaws.{kept_total}

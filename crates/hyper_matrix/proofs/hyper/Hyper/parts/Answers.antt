@@ -1,6 +1,6 @@
 use Rattle.std.proofs.Common.{ap, arith}
-use Rattle.hyper_rows.specs.Counts.{total}
-use Rattle.hyper_rows.proofs.BuiltOfLaws.{total-built_of}
+use Rattle.hyper_matrix.specs.Counts.{total}
+use Rattle.hyper_matrix.proofs.BuiltOfLaws.{total-built_of}
 use Rattle.hyper_matrix.proofs.PartLaws.{parts-one}
 use Rattle.hyper_matrix.proofs.hyper.Hyper.parts.Goals as goal
 

@@ -1,6 +1,6 @@
 use Rattle.std.proofs.Common.{map, ap, sym, ◌++◌, ◌∙◌}
 use Rattle.std.proofs.lemmas.List.{map-append}
-use Rattle.hyper_rows.specs.Cells.{entry_of}
+use Rattle.hyper_matrix.specs.Cells.{entry_of}
 use Rattle.hyper_matrix.proofs.QueryLaws.{entries_are}
 use Rattle.hyper_matrix.proofs.hyper.Hyper.push_cells.Goals as goal
 

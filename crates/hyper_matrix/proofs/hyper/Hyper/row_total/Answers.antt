@@ -2,10 +2,10 @@ use Rattle.std.proofs.Common.{ℕ, List, map, sym, subst, ap, ◌∙◌, arith}
 use Rattle.std.specs.FinMap.{len, len-empty}
 use Rattle.cells.specs.Order.{Rise}
 use Rattle.cells.specs.declared.cell.Cell.{Cell}
-use Rattle.hyper_rows.specs.Counts.{place_cmp, total}
-use Rattle.hyper_rows.specs.Cells.{entry_of, cell_total}
-use Rattle.hyper_rows.specs.Search.{IsRowSum}
-use Rattle.hyper_rows.proofs.CountLaws.{total-empty}
+use Rattle.hyper_matrix.specs.Counts.{place_cmp, total}
+use Rattle.hyper_matrix.specs.Cells.{entry_of, cell_total}
+use Rattle.hyper_matrix.specs.Search.{IsRowSum}
+use Rattle.hyper_matrix.proofs.CountLaws.{total-empty}
 use Rattle.hyper_matrix.specs.Matrix.{Matrix}
 use Rattle.hyper_matrix.proofs.MatrixLaws.{kept_total}
 use Rattle.hyper_matrix.proofs.QueryLaws.{row_count_is, row_total_is, row_outside}

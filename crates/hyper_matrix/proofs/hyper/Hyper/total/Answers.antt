@@ -1,5 +1,5 @@
 use Rattle.std.proofs.Common.{ap, ◌∙◌, arith}
-use Rattle.hyper_rows.specs.Counts.{total}
+use Rattle.hyper_matrix.specs.Counts.{total}
 use Rattle.hyper_matrix.specs.Matrix.{Matrix}
 use Rattle.hyper_matrix.proofs.MatrixLaws.{kept_total}
 use Rattle.hyper_matrix.proofs.hyper.Hyper.total.Goals as goal

@@ -1,6 +1,6 @@
 use Rattle.std.proofs.Common.{ap, ◌∙◌, arith}
 use Rattle.hyper_matrix.specs.Matrix.{matrix}
-use Rattle.hyper_rows.proofs.BuiltOfLaws.{built_of-none}
+use Rattle.hyper_matrix.proofs.BuiltOfLaws.{built_of-none}
 use Rattle.hyper_matrix.proofs.RefusalLaws.{no_faults}
 use Rattle.hyper_matrix.proofs.hyper.build.build_judged.Goals as goal
 

@@ -1,8 +1,8 @@
 use Rattle.std.proofs.Common.{ℕ, ap, sym, subst, refl, arith}
 use Rattle.cells.specs.Bounds.{AreWithin}
-use Rattle.hyper_rows.specs.Counts.{total}
-use Rattle.hyper_rows.specs.Cells.{built_of}
-use Rattle.hyper_rows.proofs.BuiltOfLaws.{total-built_of, built_of-none}
+use Rattle.hyper_matrix.specs.Counts.{total}
+use Rattle.hyper_matrix.specs.Cells.{built_of}
+use Rattle.hyper_matrix.proofs.BuiltOfLaws.{total-built_of, built_of-none}
 use Rattle.hyper_matrix.specs.Matrix.{matrix}
 use Rattle.hyper_matrix.proofs.MatrixLaws.{with_empty, sum_within, sum_total}
 use Rattle.hyper_matrix.proofs.hyper.ewise_add.with_cells.Goals as goal

@@ -2,7 +2,7 @@ use Rattle.std.proofs.Common.{List, length, get_or, sym, subst, ap, ◌∙◌, a
 use Rattle.cells.specs.Bounds.{AreWithin}
 use Rattle.cells.specs.Order.{Rise}
 use Rattle.cells.specs.declared.cell.Cell.{Cell}
-use Rattle.hyper_rows.specs.Cells.{built_of, cell_total}
+use Rattle.hyper_matrix.specs.Cells.{built_of, cell_total}
 use Rattle.hyper_matrix.specs.Matrix.{matrix}
 use Rattle.hyper_matrix.proofs.PartLaws.{cut_range, cut_is, shard_rises, shard_within, shard_total, is_part, parts_more}
 use Rattle.hyper_matrix.proofs.hyper.parts.cut.Goals as goal

@@ -1,5 +1,5 @@
 use Rattle.std.proofs.Common.{◌≡◌, length}
-use Rattle.hyper_rows.specs.Cells.{built_of}
+use Rattle.hyper_matrix.specs.Cells.{built_of}
 use Rattle.hyper_matrix.specs.Matrix.{matrix}
 use Rattle.hyper_matrix.specs.Parts.{parts_below, count_below}
 use Rattle.hyper_matrix.proofs.hyper.parts.cut.Given as goal

@@ -1,15 +1,6 @@
-//! What look-ups need: the order of places, a bisection, and what a look-up in one row answers.
+//! What look-ups need: the order of places, and a bisection.
 ghost use Rattle.std.specs.Prelude.{◌≡◌, ℕ, ◌-◌, ◌<◌, ◌≤◌, true, false};
-ghost use Rattle.hyper_rows.specs.Search.{is_before};
-
-/// The entries of one row, summed up.
-#[derive(Clone, Copy, Debug, PartialEq, Eq)]
-pub struct RowSum {
-    /// How many entries the row has, stored zeros included.
-    pub entries: u64,
-    /// The sum of their counts.
-    pub total: u64,
-}
+ghost use Rattle.hyper_matrix.specs.Search.{is_before};
 
 /// Whether a place comes before another, by row and then column.
 pub fn is_before(p: (u64, u64), q: (u64, u64)) -> bool

@@ -3,7 +3,7 @@ use Rattle.std.proofs.Common.{◌≡◌, ℕ, false, cond, eqb}
 use Rattle.std.proofs.Common.{Ordering, ◌∙◌, ap, refl}
 use Rattle.std.specs.Ordering.{nat_cmp, eq_by_cmp, is_eq, ordering_then}
 use Rattle.std.specs.Cmp.{unsigned_tied}
-use Rattle.hyper_rows.specs.Counts.{place_cmp}
+use Rattle.hyper_matrix.specs.Counts.{place_cmp}
 
 -- a place is another's where both its numbers are
 pub same_place : (r c s d : ℕ) → eq_by_cmp place_cmp (r, c) (s, d) ≡ cond (eqb r s) (eqb c d) false

@@ -10,9 +10,9 @@ use Rattle.std.proofs.lemmas.Bool.{cases_order, cases_lt, ne_eqb}
 use Rattle.std.proofs.lemmas.Bool.{false≢true}
 use Rattle.std.proofs.lemmas.List.{append-nil}
 use Rattle.std.proofs.lemmas.List.Elements.{filter-append}
-use Rattle.hyper_rows.specs.Counts.{Place, place_cmp, count_sum}
-use Rattle.hyper_rows.specs.Search.{is_before, row_cells, IsRowSum}
-use Rattle.hyper_rows.proofs.CountLaws.{places_total, T_first, T_second}
+use Rattle.hyper_matrix.specs.Counts.{Place, place_cmp, count_sum}
+use Rattle.hyper_matrix.specs.Search.{is_before, row_cells, IsRowSum}
+use Rattle.hyper_matrix.proofs.CountLaws.{places_total, T_first, T_second}
 use Rattle.cells.proofs.OrderLaws.{less_place}
 
 is_less : (r : Ordering) → is_lt r ≡ true → r ≡ Ordering.Less

@@ -9,7 +9,7 @@ use Rattle.std.specs.Prelude.{◌≡◌, ℕ, ◌-◌, ◌<◌, ◌≤◌, Bool,
 use Rattle.std.specs.Prelude.{Option, Some, None}
 use Rattle.std.specs.List.{filter}
 use Rattle.std.specs.Ordering.{is_lt}
-use Rattle.hyper_rows.specs.Counts.{Place, place_cmp, count_sum}
+use Rattle.hyper_matrix.specs.Counts.{Place, place_cmp, count_sum}
 
 abbrev pub is_before : Place → Place → Bool
 is_before p q = is_lt (place_cmp p q)

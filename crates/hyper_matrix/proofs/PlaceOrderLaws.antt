@@ -1,19 +1,30 @@
 -- The order of places in lists of cells: where two lists in order make one, and what a cut at a place leaves in order.
-use Rattle.std.proofs.Common.{◌≡◌, ℕ, zero, suc, ◌+◌, ◌<◌, ◌⊎◌, false, T, List, [], ◌∷◌, ◌++◌, get_or, map, sym, ◌∙◌}
+use Rattle.std.proofs.Common.{◌≡◌, ℕ, zero, suc, ◌+◌, ◌<◌, ◌≤◌, ◌⊎◌, false, T, List, [], ◌∷◌, ◌++◌, get_or, map, sym, ◌∙◌}
 use Rattle.std.proofs.Common.{subst, refl, inl, inr, arith}
 use Rattle.std.specs.Ordering.{is_lt}
 use Rattle.std.specs.FinMap.{is_sorted}
 use Rattle.std.specs.FinMap.Entries.{below_all}
-use Rattle.std.proofs.lemmas.Bool.{cases_order, false≢true}
-use Rattle.hyper_rows.specs.Counts.{Place, place_cmp}
-use Rattle.hyper_rows.specs.Places.{Less, AllPlaces, Precede, IsFirst}
-use Rattle.hyper_rows.specs.Cells.{entry_of}
+use Rattle.std.proofs.lemmas.Bool.{cases_order, cases_lt, false≢true}
+use Rattle.hyper_matrix.specs.Counts.{Place, place_cmp}
+use Rattle.hyper_matrix.specs.Places.{Less, AllPlaces, Precede, IsFirst}
+use Rattle.hyper_matrix.specs.Cells.{entry_of}
 use Rattle.cells.specs.Order.{Precedes, Rise}
 use Rattle.cells.specs.declared.cell.Cell.{Cell}
-use Rattle.hyper_rows.proofs.CountLaws.{places_total, T_first, T_second, T_both, is_less, less_not_equal}
+use Rattle.hyper_matrix.proofs.CountLaws.{places_total, T_first, T_second, T_both, is_less, less_not_equal}
 use Rattle.cells.proofs.OrderLaws.{less_place}
-use Rattle.hyper_rows.proofs.BuildLaws.{not_below}
-use Rattle.hyper_rows.proofs.SortedListLaws.{same_tie}
+use Rattle.hyper_matrix.proofs.SortedListLaws.{same_tie}
+
+-- what isn't below a place
+pub not_below : (p q : Place) → is_lt (place_cmp q p) ≡ false → (p.0 < q.0) ⊎ ((p.0 ≡ q.0) × (p.1 ≤ q.1))
+not_below p q e = elim (cases_order p.0 q.0) [
+  | inl same ↦ elim (cases_lt q.1 p.1) [
+    | inl less ↦ absurd (subst T e
+        (less_place q.0 q.1 p.0 p.1 (inr (sym same, less))))
+    | inr le ↦ inr (same, le)
+  ]
+  | inr (inl less) ↦ inl less
+  | inr (inr more) ↦ absurd (subst T e (less_place q.0 q.1 p.0 p.1 (inl more)))
+]
 
 pub before_before : (p q r : Place) → Less p q → Less q r → Less p r
 before_before p q r a b = subst (λ o. T (is_lt o)) (sym (places_total.trans p q r (is_less _ a) (is_less _ b))) tt

@@ -4,12 +4,12 @@ use Rattle.std.proofs.Common.{[], ◌∷◌, ◌++◌, length, sym, ◌∙◌, a
 use Rattle.std.specs.FinMap.{is_sorted}
 use Rattle.std.specs.FinMap.Entries.{is_sorted-where_key}
 use Rattle.std.proofs.lemmas.List.Elements.{filter-append}
-use Rattle.hyper_rows.specs.Counts.{Place, place_cmp}
-use Rattle.hyper_rows.specs.Places.{Less, AllPlaces}
-use Rattle.hyper_rows.specs.Search.{is_before, cells_from}
-use Rattle.hyper_rows.proofs.CountLaws.{T_first}
-use Rattle.hyper_rows.proofs.PlaceOrderLaws.{all_map, to_all}
-use Rattle.hyper_rows.proofs.SearchLaws.{AllBefore, as_true, before_trans}
+use Rattle.hyper_matrix.specs.Counts.{Place, place_cmp}
+use Rattle.hyper_matrix.specs.Places.{Less, AllPlaces}
+use Rattle.hyper_matrix.specs.Search.{is_before, cells_from}
+use Rattle.hyper_matrix.proofs.CountLaws.{T_first}
+use Rattle.hyper_matrix.proofs.PlaceOrderLaws.{all_map, to_all}
+use Rattle.hyper_matrix.proofs.LookUpLaws.{AllBefore, as_true, before_trans}
 
 -- each cell is at a place or behind it
 abbrev pub AllFrom : Place → List (Place × ℕ) → Type 0

@@ -1,15 +1,15 @@
 -- Lists of cells in order, the maps that they stand for, and what holds of all their places.
 use Rattle.std.proofs.Common.{◌≡◌, ℕ, ◌⊎◌, Bool, true, false, cond, T, List, [], ◌∷◌, length, Option, Some, None, sym}
 use Rattle.std.proofs.Common.{◌∙◌, ap, subst, refl, inl, inr}
-use Rattle.hyper_rows.specs.Places.{AllPlaces}
+use Rattle.hyper_matrix.specs.Places.{AllPlaces}
 use Rattle.std.specs.Ordering.{eq_by_cmp}
 use Rattle.std.specs.FinMap.{find, get, get-from_entries, from_entries, entries, len, len-entries, is_sorted}
 use Rattle.std.specs.FinMap.{from_sorted, get-from_sorted, entries-from_sorted}
 use Rattle.std.specs.Cmp.{eq_by_cmp_equiv}
 use Rattle.std.proofs.lemmas.Option.{none-some}
-use Rattle.hyper_rows.specs.Counts.{Place, place_cmp, Counts, plus, ewise_add, built}
-use Rattle.hyper_rows.proofs.CountLaws.{places_total, same_counts, get-ewise_add, get-built, gathered, gathered-rising}
-use Rattle.hyper_rows.proofs.CountLaws.{tied}
+use Rattle.hyper_matrix.specs.Counts.{Place, place_cmp, Counts, plus, ewise_add, built}
+use Rattle.hyper_matrix.proofs.CountLaws.{places_total, same_counts, get-ewise_add, get-built, gathered, gathered-rising}
+use Rattle.hyper_matrix.proofs.CountLaws.{tied}
 
 -- a list in order is the entries of its map
 pub entries-in_order : (es : List (Place × ℕ)) → T (is_sorted place_cmp es) →

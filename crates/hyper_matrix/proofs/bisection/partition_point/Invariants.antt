@@ -1,5 +1,5 @@
 use Rattle.std.proofs.Common.{◌-◌, ◌<◌, ◌≤◌, true, false}
-use Rattle.hyper_rows.proofs.search.partition_point.Given as goal
+use Rattle.hyper_matrix.proofs.bisection.partition_point.Given as goal
 
 abbrev pub invariant-halve : goal.invariant-halve
 invariant-halve g l = record {

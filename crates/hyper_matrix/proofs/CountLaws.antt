@@ -11,8 +11,8 @@ use Rattle.std.specs.FinMap.{get-retain_keys, entries_sorted, entries-insert, sa
 use Rattle.std.specs.FinMap.{entries-from_sorted}
 use Rattle.std.specs.FinMap.Entries.{below_all, by_order, put}
 use Rattle.std.proofs.lemmas.Bool.{false≢true, cases_order, lt-ltb, le-ltb, eq-eqb, ne_eqb}
-use Rattle.hyper_rows.specs.Counts.{Place, place_cmp, Counts, count_at, add_at, add_all, ewise_add, built, count_sum}
-use Rattle.hyper_rows.specs.Counts.{total, in_part, part, plus, parts}
+use Rattle.hyper_matrix.specs.Counts.{Place, place_cmp, Counts, count_at, add_at, add_all, ewise_add, built, count_sum}
+use Rattle.hyper_matrix.specs.Counts.{total, in_part, part, plus, parts}
 
 pub places_total : IsTotalOrder place_cmp
 places_total = then_total (on_total (λ (p : Place). p.0) nat_cmp_total) (on_total (λ (p : Place). p.1) nat_cmp_total)

@@ -3,14 +3,13 @@ use Rattle.std.proofs.Common.{eqb, ◌≡◌, ℕ, ◌+◌, ◌<◌, ◌&&◌, B
 use Rattle.std.proofs.Common.{subst, map, Option, Some, None, sym, ◌∙◌, ap, refl, arith}
 use Rattle.std.specs.Prelude.{IsSome, ◌↔◌, unwrap_or}
 use Rattle.std.proofs.lemmas.List.{map-append}
-use Rattle.hyper_rows.specs.Counts.{Place, plus, count_at, ewise_add, built, total, count_sum}
+use Rattle.hyper_matrix.specs.Counts.{Place, plus, count_at, ewise_add, built, total, count_sum}
 use Rattle.cells.specs.Sums.{sum_at, stands_at}
-use Rattle.hyper_rows.specs.Cells.{entry_of, built_of, cell_total, cells_at}
+use Rattle.hyper_matrix.specs.Cells.{entry_of, built_of, cell_total, cells_at}
 use Rattle.cells.specs.declared.cell.Cell.{Cell}
 use Rattle.std.specs.FinMap.{get, empty}
-use Rattle.hyper_rows.proofs.CellLaws.{same_place}
-use Rattle.hyper_rows.proofs.CountLaws.{total-built, gathered, get-built, built-append}
-use Rattle.hyper_rows.proofs.CountLaws.{same_counts}
+use Rattle.hyper_matrix.proofs.CellLaws.{same_place}
+use Rattle.hyper_matrix.proofs.CountLaws.{total-built, gathered, get-built, built-append, same_counts}
 
 pub entries_total : (cells : List Cell) → count_sum (map entry_of cells) ≡ cell_total cells
 entries_total [] = refl

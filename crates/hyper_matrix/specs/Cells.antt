@@ -1,7 +1,7 @@
 -- Lists of cells as a caller gives them.
 use Rattle.std.specs.Prelude.{ℕ, List, map}
 use Rattle.std.specs.List.{filter}
-use Rattle.hyper_rows.specs.Counts.{Place, Counts, built}
+use Rattle.hyper_matrix.specs.Counts.{Place, Counts, built}
 use Rattle.cells.specs.declared.cell.Cell.{Cell}
 pub use Rattle.cells.specs.Sums.{cell_total, stands_at}
 

@@ -1,9 +1,0 @@
-pub mod CountLaws
-pub mod CellLaws
-pub mod SortedListLaws
-pub mod BuildLaws
-pub mod PlaceOrderLaws
-pub mod SearchLaws
-pub mod SkipLaws
-pub mod BuiltOfLaws
-pub mod ShardLaws

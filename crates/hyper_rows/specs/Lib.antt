@@ -1,5 +1,0 @@
-pub mod Counts
-pub mod Places
-pub mod Cells
-pub mod Search
-pub mod Parts
