@@ -5,8 +5,7 @@
 ghost use Rattle.std.specs.Prelude.{◌≡◌, ◌<◌};
 ghost use Rattle.batch_store.specs.Parts.{concerns, part_of};
 
-use hyper_matrix::Hyper;
-use hyper_matrix::shard_of;
+use hyper_matrix::{Hyper, shard_of};
 
 /// Whether a cell, a stored zero too, lies in shard `s` of `k`. Reads the cells up to the first that does.
 pub fn has_part(m: &Hyper, s: u64, k: u64) -> bool

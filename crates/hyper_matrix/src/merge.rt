@@ -11,8 +11,8 @@ ghost use Rattle.cells.specs.Order.{Precedes, Rise};
 ghost use Rattle.hyper_matrix.specs.Cells.{cell_total};
 ghost use Rattle.hyper_matrix.specs.Merge.{AppendsSum, SumsTo};
 
-use cells::Cell;
 use crate::bisection::partition_point;
+use cells::Cell;
 use std::alloc::AllocError;
 
 // A cell's place as one number: places are in order as these numbers are.

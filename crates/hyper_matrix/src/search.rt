@@ -9,9 +9,9 @@ ghost use Rattle.hyper_matrix.specs.Search.{TurnsAt, is_before, first_from, IsRo
 ghost use Rattle.hyper_matrix.specs.Places.{place_at};
 ghost use Rattle.hyper_matrix.specs.RowOf.{IsFirst, HasNoneFrom};
 
+use crate::bisection::{is_before, partition_point};
 use crate::row_sum::{Entry, RowSum};
 use cells::Cell;
-use crate::bisection::{is_before, partition_point};
 
 /// How many cells of a list in order come before a place, by bisection.
 pub fn count_before(cells: &[Cell], place: (u64, u64)) -> usize

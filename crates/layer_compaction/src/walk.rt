@@ -7,8 +7,7 @@ ghost use Rattle.hyper_matrix.specs.Places.{IsFirst};
 ghost use Rattle.layer_compaction.specs.Runs.{count_new, from_place, left_with, without};
 
 use cells::Cell;
-use hyper_matrix::{Cells, Hyper};
-use hyper_matrix::is_before;
+use hyper_matrix::{Cells, Hyper, is_before};
 
 // Passes the cells that stand before a place, and gives the first that doesn't. `head` is the one taken last.
 fn advanced(cells: &mut Cells<'_>, head: Option<Cell>, place: (u64, u64)) -> Option<Cell>

@@ -13,8 +13,7 @@ ghost use Rattle.merged_cells.specs.Fronts.{IsElsewhere, IsFrontBefore};
 
 use crate::front::Front;
 use cells::Cell;
-use hyper_matrix::Hyper;
-use hyper_matrix::is_before;
+use hyper_matrix::{Hyper, is_before};
 use std::alloc::{AllocError, Global};
 use std::collections::BinaryHeap;
 use std::marker::Model;

@@ -6,8 +6,7 @@ ghost use Rattle.plain_engine.specs.Bases.{AreNumbered, bases_of, AreParts, AreS
 ghost use Rattle.plain_engine.specs.Known.{AreBased};
 
 use batch_store::{Book, MAX_SHARDS, Shard};
-use hyper_matrix::{Cells, Hyper};
-use hyper_matrix::shard_of;
+use hyper_matrix::{Cells, Hyper, shard_of};
 use std::array;
 
 // Whether no cell is left in any of these.

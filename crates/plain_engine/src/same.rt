@@ -7,8 +7,7 @@ ghost use Rattle.hyper_matrix.specs.Counts.{part};
 ghost use Rattle.plain_engine.specs.Records.{Follows};
 
 use batch_store::{Batch, Book, Shard};
-use hyper_matrix::Hyper;
-use hyper_matrix::shard_of;
+use hyper_matrix::{Hyper, shard_of};
 
 // Whether two matrices have the same cells.
 fn same_cells(a: &Hyper, b: &Hyper) -> bool

@@ -4,8 +4,8 @@ ghost use Rattle.hyper_matrix.specs.Counts.{part};
 ghost use Rattle.hyper_matrix.specs.Parts.{shard_cells};
 
 use crate::hyper::Hyper;
-use cells::Cell;
 use crate::shard::shard_of;
+use cells::Cell;
 use std::alloc::{AllocError, Global};
 
 // Appends the cells that lie in the shard, in their order.

@@ -13,8 +13,8 @@ use super::build::of_list;
 use crate::hyper::Hyper;
 use crate::limits::SMALL_SHARE;
 use crate::piece::Piece;
-use cells::{Cell, total_of};
 use crate::shard::shard_of;
+use cells::{Cell, total_of};
 use std::alloc::{AllocError, Global};
 
 // Counts the cells of each shard, of as many shards as there are counts.

@@ -5,8 +5,8 @@ ghost use Rattle.hyper_matrix.specs.Counts.{total};
 ghost use Rattle.hyper_matrix.specs.RowOf.{row_of};
 
 use crate::hyper::Hyper;
-use crate::search;
 use crate::row_sum::RowSum;
+use crate::search;
 
 impl Hyper {
     /// The sum of all counts, 0 for the empty matrix: `GrB_reduce` to a scalar with the plus monoid. Constant time.
