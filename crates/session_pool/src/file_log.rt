@@ -27,7 +27,7 @@ impl Log for FileLog {
     ghost use Rattle.std.specs.Prelude.{◌≡◌, true, ⊤, []};
     ghost use Rattle.std.specs.declared.fs.File.{File};
     ghost use Rattle.log_folder.specs.declared.file_disk.FileDisk.{FileDisk};
-    ghost use Rattle.stored_log.specs.Kept.{is_failed, room_of, WasSynced, HasFailed, WasFull};
+    ghost use Rattle.stored_log.specs.Kept.{is_failed, room_of, WasSynced, HasFailed};
     ghost use Rattle.stored_log.specs.Sizes.{pages_taken};
 
     ghost durable = { λ l. l.stored.entries };
@@ -44,7 +44,7 @@ impl Log for FileLog {
 
     ghost has_failed = { HasFailed (λ (d : FileDisk File). d.in_doubt) ⊤ };
 
-    ghost was_full = { WasFull (λ (d : FileDisk File). d.failures) };
+    ghost was_full = { ⊤ };
 
     fn is_failed(&self) -> bool {
         self.stored.is_failed()

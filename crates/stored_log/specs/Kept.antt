@@ -10,7 +10,6 @@
 --     IsKept .. es o         that, as long as no call has left the disk in doubt, and what its numbers keep to
 --     WasSynced .. es        a disk had these entries, all durable
 --     HasFailed .. lost      a disk was in doubt, or a file has lost its name
---     WasFull ..             a call on a disk has failed, or the log on it would have got longer than logs may be
 --     IsFull .. o n asked    so many pages more weren't to be had: the log would get longer than logs may be, no more
 --                            failures could be counted, or a call has failed from o to n, and what was written for them
 --                            is cut off again
@@ -85,12 +84,6 @@ pub record WasSynced {D : Type 0} (telling : Type 0) (tells : D → Type 0) (wri
 
 abbrev pub HasFailed : {D : Type 0} → (D → Bool) → Type 0 → Type 0
 HasFailed {D} in_doubt lost = ((disk : D) × (in_doubt disk ≡ true)) ⊎ lost
-
-pub record WasFull {D : Type 0} (failure_count : D → ℕ) : Type 0 where
-  pub disk : D
-  pub writer : LogWriter
-  pub asked : ℕ
-  pub why : (0 < failure_count disk) ⊎ (most_pages < writer.page + asked)
 
 pub record IsCutBack {D : Type 0} (tells : D → Type 0) (written : D → List ℕ) (failure_count : D → ℕ)
     (o n : OpenLog D) : Type 0 where

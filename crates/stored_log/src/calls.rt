@@ -2,7 +2,7 @@
 ghost use Rattle.std.specs.Prelude.{◌≡◌, ◌≢◌, ◌+◌, ◌≤◌, ◌<◌, ◌++◌, length, Err, OnOk, OnErr, true, false};
 ghost use Rattle.batch_store.specs.Batches.{entries_of, values};
 ghost use Rattle.log_file.specs.declared.room.RoomFault.{RoomFault};
-ghost use Rattle.stored_log.specs.Kept.{is_failed, number_of, room_of, HasFailed, HasFilled, WasFull, WasSynced};
+ghost use Rattle.stored_log.specs.Kept.{is_failed, number_of, room_of, HasFailed, HasFilled, WasSynced};
 ghost use Rattle.stored_log.specs.Sizes.{pages_taken};
 
 use crate::block::write_block;
@@ -62,7 +62,6 @@ impl<D: LogDisk> StoredLog<D> {
         ensures entries { self.new.entries ≡ self.old.entries }
         ensures broken { result ≡ Err RoomFault.Failed → is_failed D.in_doubt self.new.in_use ≡ true }
         ensures told { result ≡ Err RoomFault.Failed → HasFailed D.in_doubt D.lost_name }
-        ensures full { result ≡ Err RoomFault.Full → WasFull D.failure_count }
         ensures cause { result ≡ Err RoomFault.Full →
             HasFilled D.tells D.written D.failure_count self.old.in_use self.new.in_use pages }
         ensures named { self.new.named ≡ self.old.named }

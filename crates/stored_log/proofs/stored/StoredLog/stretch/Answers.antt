@@ -39,11 +39,3 @@ invariant_of-self g c =
       },
       c.self.invariant.1,
     )
-
-pub returns-clause-full : goal.returns-clause-full
-returns-clause-full g c = λ full. record {
-  disk = c.make_ready.new.log.file.disk;
-  writer = c.make_ready.new.log.writer;
-  asked = c.args.pages;
-  why = c.make_ready.ensures.full full;
-}
