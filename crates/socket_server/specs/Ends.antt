@@ -18,14 +18,20 @@
 --     IsShort ends f  that so many batches aren't durable is told only where a server has ended so
 --     IsClosed seats a
 --                     what the seats of an engine say of what it had accepted when it was closed
-use Rattle.std.specs.Prelude.{◌≡◌, ◌⊎◌, ℕ, ◌+◌, ◌≤◌, List, length, Bool, true, false, Option, Some, None, String}
+--     StaysAccepted synced a e k
+--                     a sync has covered this entry at the reply's index, and at that index alone it is among the
+--                     entries of what was accepted
+use Rattle.std.specs.Prelude.{◌≡◌, ◌⊎◌, ℕ, ◌+◌, ◌≤◌, List, length, slice_get, Bool, true, false, Option, Some, None}
+use Rattle.std.specs.Prelude.{String}
 use mathlib.Core.List.{IsPrefix}
 use Rattle.batch_store.specs.declared.verdict.Entry.{Entry}
+use Rattle.batch_store.specs.declared.verdict.Kept.{Kept}
 use Rattle.batch_store.specs.Setups.{Setting}
 use Rattle.batch_store.specs.Accepted.{Accepted, entries_in, count_in, total_in}
 use Rattle.batch_store.specs.Books.{AreAccepted}
 use Rattle.plain_engine.specs.declared.status.Status.{Status}
 use Rattle.plain_engine.specs.Object.{status_of}
+use Rattle.locked_engine.specs.Counted.{CountsOnce}
 use Rattle.locked_engine.specs.Opened.{firsts, SharePast}
 use Rattle.locked_engine.specs.Told.{AreShown}
 use Rattle.locked_engine.specs.Versions.{version_status}
@@ -47,6 +53,10 @@ pub record GoesOn (a b : Accepted) : Type 0 where
 pub record IsClosed (seats : List SeatView) (a : Accepted) : Type 0 where
   pub shares : firsts seats ≡ total_in a
   pub shown : AreShown seats (entries_in a)
+
+pub record StaysAccepted (synced : List Entry → Type 0) (a : Accepted) (e : Entry) (k : Kept) : Type 0 where
+  pub covered : (es : List Entry) × synced es × (slice_get es k.index ≡ Some e)
+  pub counted : CountsOnce (entries_in a) e k
 
 abbrev pub stopped : Status → ℕ → Stopped
 stopped status missing = record { status = status; missing = missing }
