@@ -55,7 +55,7 @@ module _ (o : Accepted) where
         ∙ sym (admit_stays h.count (accepted o.base o.folded all) b h.within);
   }
 
-  -- a batch that is added last stands there
+  -- a batch that is added last is at the index of its reply
   pub given_last : (all : List Submission) (a : Accepted) (b : Submission) (k : Kept) → HasFolded o all a →
       k.index ≡ count_in a → IsGiven o b (all ++ b ∷ []) k
   given_last all a b k h at =

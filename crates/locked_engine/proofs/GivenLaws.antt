@@ -16,7 +16,7 @@ use Rattle.locked_engine.specs.Opened.{HasFolded}
 use Rattle.locked_engine.specs.Views.{SeatView}
 use Rattle.locked_engine.proofs.PrefixLaws.{prefix_trans}
 
--- what stands in a beginning stands there in the whole
+-- what a beginning has at an index, the whole list has there
 there_longer : (xs ys : List Submission) (i : ℕ) (b : Submission) → slice_get xs i ≡ Some b →
     slice_get (xs ++ ys) i ≡ Some b
 there_longer [] ys i b h = absurd (cc h)
@@ -44,7 +44,7 @@ known_at (t ∷ ts) zero s all h at =
     let same : t ≡ s = cc at in subst (λ (u : SeatView). IsPrefix u.known all) same h.0
 known_at (t ∷ ts) (suc i) s all h at = known_at ts i s all h.1 at
 
--- what a seat had accepted stands among all batches
+-- what a seat had accepted is among all batches
 pub given_all : (o : Accepted) (seats : List SeatView) (all : List Submission) (b : Submission) (k : Kept) →
     AreKnown seats all → Given o seats b k → IsGiven o b all k
 given_all o seats all b k known h =
@@ -53,14 +53,14 @@ given_all o seats all b k known h =
     let begins = known_at seats among.0 h.seat all known at in
     given_later o b h.known all k (prefix_trans h.known h.seat.known all h.later begins) h.given
 
--- a place behind a front that is dropped
+-- an index after a front that is dropped
 dropped_there : (m i : ℕ) (all : List Submission) → slice_get (drop m all) i ≡ slice_get all (m + i)
 dropped_there zero i all = ap (λ (n : ℕ). slice_get all n) {x = i} {y = 0 + i} (omega arith)
 dropped_there (suc m) i [] = refl
 dropped_there (suc m) i (x ∷ xs) =
     dropped_there m i xs ∙ ap (λ (n : ℕ). slice_get (x ∷ xs) n) {x = suc (m + i)} {y = suc m + i} (omega arith)
 
--- and where it isn't folded it stands in the list
+-- and where it isn't folded it is in the list
 pub given_stands : (o : Accepted) (all : List Submission) (a : Accepted) (b : Submission) (k : Kept) →
     HasFolded o all a → IsGiven o b all k → length a.folded ≤ k.index → batch_at a k.index ≡ Some b
 given_stands o all a b k h given behind =

@@ -1,11 +1,11 @@
 -- Which batches were accepted, and not only which entries.
 --     IsGiven opened b known k
---                     this batch stands among those that are known as accepted, at the index of this reply. The list has
+--                     this batch is among those that are known as accepted, at the index of this reply. The list has
 --                     the batches that weren't folded at the opening, and all later ones
 --     AreKnown seats all
 --                     what each of these seats knows begins these batches
 --     Given opened seats b k
---                     one of these seats had this batch accepted first, with this reply: it stands in what the seat knew
+--                     one of these seats had this batch accepted first, with this reply: it is in what the seat knew
 --                     then, which begins what the seat knows since
 use Rattle.std.specs.Prelude.{◌≡◌, ◌-◌, ◌≤◌, List, [], ◌∷◌, Contains, length, slice_get, Some}
 use mathlib.Core.List.{IsPrefix}

@@ -388,7 +388,7 @@ where
         if !self.show(seen) || from < self.book.folded() || from > self.book.len() {
             return Err(NoneShared::at(from));
         }
-        // What is there before a batch whose pointer can't be copied is as good.
+        // Fewer will do, where a pointer can't be copied.
         let _is_all = self.book.share_from(from, most_cells, out);
         if out.is_empty() {
             return Err(NoneShared::at(from));

@@ -29,7 +29,7 @@ returns-clause-known g c =
     (folded_more g.N.Named.opened all before b c.self.invariant.1) entries c.status-status.ensures.legal.distinct in
     subst (λ (l : List Submission). AreFrom l (b ∷ [])) (sym known) (last_from all b distinct)
 
--- and stands at the index of the reply
+-- and it is at the index of the reply
 pub returns-clause-given : goal.returns-clause-given
 returns-clause-given g c =
     let before = c.self.inside.book.state in

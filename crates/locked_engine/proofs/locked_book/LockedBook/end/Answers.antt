@@ -19,7 +19,7 @@ returns-clause-given g c =
           (ap (λ (s : Course). s.batches) (c.contains.ensures.same ∙ c.covers.ensures.same)) c.contains.ensures.begins,
     )
 
--- and the book's batches stand behind those of it that are folded
+-- and the book's batches come after those of it that are folded
 pub returns-clause-known : goal.returns-clause-known
 returns-clause-known g c =
     let o = g.N.Named.opened in
