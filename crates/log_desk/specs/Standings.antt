@@ -41,7 +41,7 @@ IsWord synced word = (es : List Entry) → synced es → word es
 
 pub record EndsBefore (synced : List Entry → Type 0) (known : List Entry) (index from : ℕ) : Type 0 where
   pub entries : List Entry
-  pub synced : synced entries
+  pub durable : synced entries
   pub count : length entries ≡ from
   pub begins : IsPrefix entries known
   pub short : length known ≤ index
