@@ -1,5 +1,6 @@
 -- What the book and the shards of an engine have folded since it was opened.
-use Rattle.std.proofs.Common.{◌≡◌, ℕ, ◌+◌, ◌≤◌, Bool, true, false, List, [], ◌∷◌, ◌++◌, length, take, drop}
+use Rattle.std.proofs.Common.{slice_get, Some}
+use Rattle.std.proofs.Common.{◌≡◌, ℕ, ◌+◌, ◌-◌, ◌≤◌, Bool, true, false, List, [], ◌∷◌, ◌++◌, length, take, drop}
 use Rattle.std.proofs.Common.{refl, sym, ◌∙◌, ap, subst, arith, append-nil, append_assoc, length-append}
 use Rattle.std.proofs.lemmas.List.{take-append-drop, length-drop}
 use Rattle.std.specs.List.{IsDistinct}
@@ -10,7 +11,8 @@ use Rattle.layer_compaction.specs.Shared.{content}
 use Rattle.batch_store.specs.declared.verdict.Entry.{Entry}
 use Rattle.batch_store.specs.Setups.{Setting}
 use Rattle.batch_store.specs.Verdicts.{same_pair, total_of_entries}
-use Rattle.batch_store.specs.Accepted.{Accepted, accepted, entries_in, total_in, with_batch}
+use Rattle.batch_store.specs.declared.verdict.Kept.{Kept}
+use Rattle.batch_store.specs.Accepted.{Accepted, accepted, entries_in, count_in, total_in, with_batch}
 use Rattle.batch_store.specs.Batches.{Submission, entries_of}
 use Rattle.batch_store.specs.Books.{AreDistinct}
 use Rattle.batch_store.specs.BookFolds.{folded_to}
@@ -18,13 +20,20 @@ use Rattle.batch_store.specs.Parts.{record_content}
 use Rattle.batch_store.specs.Shards.{Holding, shard_total}
 use Rattle.batch_store.specs.ShardFolds.{FoldsFront}
 use Rattle.batch_store.proofs.BookFoldLaws.{entries-to}
+use Rattle.batch_store.proofs.BookLaws.{length-entries_of}
 use Rattle.batch_store.proofs.ShardFoldLaws.{record_content-append}
 use Rattle.plain_engine.specs.Known.{AreFrom, IsBased, IsBasedOn}
 use Rattle.plain_engine.proofs.FoldTogetherLaws.{admit_stays}
 use Rattle.plain_engine.proofs.RoundLaws.{folded_twice}
 use Rattle.plain_engine.proofs.KnownLaws.{distinct_behind, from_behind, from_later, from_push}
+use Rattle.locked_engine.specs.Given.{IsGiven}
 use Rattle.locked_engine.specs.Opened.{SharePast, HasFolded}
 use Rattle.locked_engine.specs.Moments.{KeepsLocked}
+
+-- a list's last one
+last_there : (all : List Submission) (b : Submission) → slice_get (all ++ b ∷ []) (length all) ≡ Some b
+last_there [] b = refl
+last_there (x ∷ xs) b = last_there xs b
 
 -- ---- the book
 module _ (o : Accepted) where
@@ -45,6 +54,25 @@ module _ (o : Accepted) where
     state = ap (λ x. with_batch x b) h.state
         ∙ sym (admit_stays h.count (accepted o.base o.folded all) b h.within);
   }
+
+  -- a batch that is added last is at the index of its reply
+  pub given_last : (all : List Submission) (a : Accepted) (b : Submission) (k : Kept) → HasFolded o all a →
+      k.index ≡ count_in a → IsGiven o b (all ++ b ∷ []) k
+  given_last all a b k h at =
+      let entries : entries_in a ≡ o.folded ++ entries_of all = ap entries_in h.state
+      ∙ entries-to h.count (accepted o.base o.folded all) in
+      let index : k.index ≡ length o.folded + length all = omega (
+        arith,
+        at,
+        ap length entries,
+        length-append o.folded (entries_of all),
+        length-entries_of all,
+      ) in
+      record {
+        later = omega (arith, index);
+        there = ap (λ (n : ℕ). slice_get (all ++ b ∷ []) n) {x = k.index - length o.folded} {y = length all}
+            (omega (arith, index)) ∙ last_there all b;
+      }
 
   pub folded_further : (all : List Submission) (a now : Accepted) (m : ℕ) → HasFolded o all a →
       m ≤ length a.list → now ≡ folded_to m a → HasFolded o all now

@@ -4,6 +4,7 @@ pub mod PrefixLaws
 pub mod AddLaws
 pub mod HistoryLaws
 pub mod ToldLaws
+pub mod GivenLaws
 pub mod ListedLaws
 pub mod ShownLaws
 pub mod FollowLaws

@@ -4,6 +4,7 @@ pub mod Opened
 pub mod Moments
 pub mod Histories
 pub mod Told
+pub mod Given
 pub mod Counted
 pub mod Shown
 pub mod Queues

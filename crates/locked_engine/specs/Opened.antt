@@ -2,7 +2,7 @@
 --     NamesEngine     these are the names' setup and number of seats, their history, their ledgers, and the ledgers'
 --                     parts: one of the first for each seat, one of the second for each shard and each seat
 --     opened_seats    the seats of an engine that was just opened, in order of their numbers: the first has all that
---                     was accepted before, the others have nothing; each was shown this version
+--                     was accepted before, the others have nothing; each was shown this version, and knows these batches
 --     firsts          the seats' shares of the first ledger, added up
 --     SharePast a b   what is folded in b is folded in a too, and behind it these batches, which are in a's base beside
 --                     what b's has
@@ -31,12 +31,12 @@ pub record NamesEngine (names : NamesView) (setup : Setting) (seats : ℕ) (hist
   pub second_is : names.second ≡ second
   pub second_parts_is : names.setup.shards + names.seats ≡ second_parts
 
-abbrev pub opened_seat : List Entry → ℕ → ℕ → SeatView
-opened_seat shown total i = seat_view i (if i == 0 then total else 0) shown
+abbrev pub opened_seat : List Entry → List Submission → ℕ → ℕ → SeatView
+opened_seat shown known total i = seat_view i (if i == 0 then total else 0) shown known
 
-abbrev pub opened_seats : List Entry → ℕ → ℕ → List SeatView
-opened_seats shown total zero = []
-opened_seats shown total (suc n) = opened_seats shown total n ++ opened_seat shown total n ∷ []
+abbrev pub opened_seats : List Entry → List Submission → ℕ → ℕ → List SeatView
+opened_seats shown known total zero = []
+opened_seats shown known total (suc n) = opened_seats shown known total n ++ opened_seat shown known total n ∷ []
 
 abbrev pub firsts : List SeatView → ℕ
 firsts seats = sum_by (λ (s : SeatView). s.first) seats

@@ -1,6 +1,7 @@
 -- What contracts see of names and of seats.
 --     NamesView       a setup, a number of seats, and the names of both ledgers and of the history
---     SeatView        a seat's number, its share of the first ledger, and the version that it was shown
+--     SeatView        a seat's number, its share of the first ledger, the version that it was shown, and the batches that
+--                     it knows as accepted: a beginning of those that weren't folded at the opening and all later ones
 --     Course          the entries and the batches of a history, those that it was opened with too
 use Rattle.std.specs.Prelude.{ℕ, List, refl}
 use Rattle.std.specs.Coded.{Coded, code_by, coded×, coded_ℕ, coded_list}
@@ -34,14 +35,16 @@ pub record SeatView : Type 0 where
   pub number : ℕ
   pub first : ℕ
   pub seen : List Entry
+  pub known : List Submission
 
-abbrev pub seat_view : ℕ → ℕ → List Entry → SeatView
-seat_view number first seen = record { number = number; first = first; seen = seen }
+abbrev pub seat_view : ℕ → ℕ → List Entry → List Submission → SeatView
+seat_view number first seen known = record { number = number; first = first; seen = seen; known = known }
 
 abbrev pub coded_seat : Coded SeatView
 coded_seat =
-    code_by (ℕ × (ℕ × List Entry)) (coded× coded_ℕ (coded× coded_ℕ (coded_list coded_entry)))
-    (λ s. (s.number, (s.first, s.seen))) (λ p. seat_view p.0 p.1.0 p.1.1) (λ _. refl)
+    code_by (ℕ × (ℕ × (List Entry × List Submission)))
+    (coded× coded_ℕ (coded× coded_ℕ (coded× (coded_list coded_entry) (coded_list coded_submission))))
+    (λ s. (s.number, (s.first, (s.seen, s.known)))) (λ p. seat_view p.0 p.1.0 p.1.1.0 p.1.1.1) (λ _. refl)
 
 pub record Course : Type 0 where
   pub entries : List Entry

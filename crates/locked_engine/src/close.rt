@@ -3,9 +3,11 @@ ghost use Rattle.std.specs.Prelude.{◌≡◌, ◌≢◌, ◌+◌, ◌≤◌, �
 ghost use mathlib.Core.List.{IsPrefix};
 ghost use Rattle.batch_store.specs.declared.verdict.Entry.{Entry};
 ghost use Rattle.batch_store.specs.Accepted.{entries_in, total_in};
+ghost use Rattle.batch_store.specs.Batches.{Submission};
 ghost use Rattle.plain_engine.specs.Standing.{AreTogether, HaveSetup, IsWhole, shards_total};
 ghost use Rattle.plain_engine.specs.Known.{AllFrom, AreBased};
-ghost use Rattle.locked_engine.specs.Opened.{firsts, SharePast};
+ghost use Rattle.locked_engine.specs.Given.{AreKnown};
+ghost use Rattle.locked_engine.specs.Opened.{firsts, HasFolded, SharePast};
 ghost use Rattle.locked_engine.specs.Told.{AreShown};
 
 use crate::engine::Engine;
@@ -85,6 +87,11 @@ impl<N: Named, H: Ledger> Engine<N, H> {
         ensures shown { IfOk result (λ e. AreShown seats.items (entries_in e.book.state)) }
         ensures shown_apart { (shards : _) (book : _) → result ≡ Err (CloseFault.RecordsDiffer shards book) →
             AreShown seats.items (entries_in book.state) }
+        // The batches that each seat knows begin all batches, of which so many are in the base and the others in the list.
+        ensures known { IfOk result (λ e. (all : List Submission) × HasFolded N.opened all e.book.state
+            × AreKnown seats.items all) }
+        ensures known_apart { (shards : _) (book : _) → result ≡ Err (CloseFault.RecordsDiffer shards book) →
+            (all : List Submission) × HasFolded N.opened all book.state × AreKnown seats.items all }
     {
         if seats.len() != self.seats {
             return Err(CloseFault::SeatsMissing {
@@ -107,10 +114,11 @@ impl<N: Named, H: Ledger> Engine<N, H> {
             shown: _,
             has_folder: _,
         } = self;
-        let (mut first, mut second, seen) = gather(seats);
+        let (mut first, mut second, seen, known_by_seats) = gather(seats);
         let book = book.into_inner();
         let mut known = book.known();
         let shards_rebased = unlock_all(locked, &mut shards, &mut second, &mut known);
+        known.learn(&known_by_seats);
         let rebased = book.is_rebased_or(shards_rebased);
         let (book, mut first_number, mut second_number) = book.end(rt, &seen, &known);
         first_number.audit(&mut first);
@@ -144,26 +152,29 @@ impl<N: Named, H: Ledger> Engine<N, H> {
     }
 }
 
-// The shares of all seats together, and the most that one of them was shown, which begins with what each was.
-fn gather<N: Named, H: Ledger>(seats: Vec<Seat<N, H>>) -> (Share<N>, Share<H>, Version<N>)
+// The shares of all seats together, the most that one of them was shown, and the most that one knows, which begin with
+// what each was shown and knows.
+fn gather<N: Named, H: Ledger>(seats: Vec<Seat<N, H>>) -> (Share<N>, Share<H>, Version<N>, Known<N>)
     requires some { 0 < length seats.items }
     ensures parts { (result.0.parts ≡ length seats.items) × (result.1.parts ≡ length seats.items) }
     ensures first { result.0.amount ≡ firsts seats.items }
     ensures balanced { result.1.amount ≡ 0 }
     ensures shown { AreShown seats.items result.2 }
+    ensures known { AreKnown seats.items result.3 }
 {
     let mut seats = seats;
     let Some(seat) = seats.pop() else {
         unreachable!()
     };
-    let (mut first, mut second, mut seen) = seat.into_parts();
+    let (mut first, mut second, mut seen, mut known) = seat.into_parts();
     while let Some(seat) = seats.pop() {
-        let (own, part, shown) = seat.into_parts();
+        let (own, part, shown, knows) = seat.into_parts();
         first.merge(own);
         second.merge(part);
         seen.learn(&shown);
+        known.learn(&knows);
     }
-    (first, second, seen)
+    (first, second, seen, known)
 }
 
 // Whether one of both holds.

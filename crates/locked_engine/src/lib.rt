@@ -18,7 +18,8 @@
 //! exchanges pointers. Then the first batches are in the bases, and their cells are let go of.
 //!
 //! What a seat is shown of the book is a beginning of one history, to which only the book's lock adds (`History`). So
-//! whatever a put was answered, the book has its batch where the answer says so.
+//! whatever a put was answered, the book has its batch where the answer says so. A seat also knows such a beginning batch
+//! by batch (`Known`): what its puts were the first to have accepted stands there itself, and not by its entry alone.
 //!
 //! What no lock can know, that the shards together hold exactly what the book accepted, is counted by two ledgers
 //! (`std::sync::ledger`), which take no bytes and no time: the book's total is the number of both. Of the first each
@@ -50,12 +51,13 @@ mod shown;
 mod version;
 
 pub use close::CloseFault;
-pub use counted::answers_count_once;
+pub use counted::{accepted_batches_stay, answers_count_once};
 pub use engine::Engine;
 pub use fault::OpenFault;
 pub use fold::Backlog;
 pub use folder::Folder;
 pub use names::{Named, Names};
 pub use plain_engine::{PutFault, Status};
+pub use queue::NoneShared;
 pub use seat::Seat;
 pub use version::Version;

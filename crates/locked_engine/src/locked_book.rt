@@ -12,8 +12,9 @@ ghost use Rattle.batch_store.specs.BookFolds.{folded_to};
 ghost use Rattle.batch_store.specs.Verdicts.{kept};
 ghost use Rattle.batch_store.specs.declared.verdict.Verdict.TheVariants.{Fresh};
 ghost use Rattle.plain_engine.specs.Known.{AreFrom};
+ghost use Rattle.locked_engine.specs.Given.{IsGiven};
 ghost use Rattle.locked_engine.specs.Told.{Answers, IsTold, answer_of};
-ghost use Rattle.locked_engine.specs.Opened.{SharePast, IsBehind};
+ghost use Rattle.locked_engine.specs.Opened.{SharePast, IsBehind, HasFolded};
 ghost use Rattle.locked_engine.specs.Queues.{Follows};
 ghost use Rattle.locked_engine.specs.Versions.{IsVersion, entry_verdict};
 
@@ -22,6 +23,7 @@ use crate::fold::{Backlog, SealedBook};
 use crate::history::History;
 use crate::known::Known;
 use crate::names::Named;
+use crate::queue::NoneShared;
 use crate::version::{NextPlace, NextVersion, Version, VersionWriter, entry_of};
 use batch_store::{Batch, Book, BookList, Kept, ReleasedBatches, Verdict};
 use crossbeam_utils::rule::Unruled;
@@ -249,6 +251,7 @@ where
         ensures shown { IsPrefix seen.now (entries_in result.0.state) }
         ensures known { (before : List Submission) × AreDistinct (before ++ result.0.state.list)
             × IsPrefix known.now (before ++ result.0.state.list) }
+        ensures given { (all : List Submission) × HasFolded N.opened all result.0.state × IsPrefix known.now all }
         ensures opened { IsPrefix (entries_in N.opened) (entries_in result.0.state) }
     {
         let LockedBook {
@@ -372,19 +375,25 @@ where
         from: u64,
         most_cells: u64,
         out: &mut Vec<Arc<Batch>>,
-    ) -> bool
+    ) -> Result<(), NoneShared>
         requires empty { out.old.items ≡ [] }
         requires none { vec_len out.old ≡ 0 }
         requires room { 0 < vec_capacity out.old }
         ensures later { IsPrefix seen.old seen.new }
         ensures capacity { vec_capacity out.new ≡ vec_capacity out.old }
-        ensures next { OnTrue result (Follows from (entries_of (values out.new.items)) seen.new) }
-        ensures some { OnTrue result (from < length seen.new → 0 < vec_len out.new) }
+        ensures next { OnOk result (Follows from (entries_of (values out.new.items)) seen.new) }
+        ensures some { OnOk result (0 < vec_len out.new) }
+        ensures from { IfErr result (λ none. none.from ≡ from) }
     {
         if !self.show(seen) || from < self.book.folded() || from > self.book.len() {
-            return false;
+            return Err(NoneShared::at(from));
         }
-        self.book.share_from(from, most_cells, out)
+        // Fewer will do, where a pointer can't be copied.
+        let _is_all = self.book.share_from(from, most_cells, out);
+        if out.is_empty() {
+            return Err(NoneShared::at(from));
+        }
+        Ok(())
     }
 
     /// What the next fold would be made of. Constant time.
@@ -450,6 +459,7 @@ where
         ensures kept { IfOk result (λ r. r.kept ≡
             kept (count_in self.old.state) (total_in self.old.state + batch_total (arc_value b))) }
         ensures known { IfOk result (λ r. AreFrom r.known (arc_value b ∷ [])) }
+        ensures given { IfOk result (λ r. IsGiven N.opened (arc_value b) r.known r.kept) }
         ensures refused { OnErr result (self.new.state ≡ self.old.state) }
         ensures parts { (first.new.parts ≡ 1) × (second.new.parts ≡ 1) }
         ensures first { OnOk result (first.new.amount ≡ first.old.amount + batch_total (arc_value b)) }
@@ -483,6 +493,7 @@ where
         ensures kept { IfOk result (λ r. r.kept ≡
             kept (count_in self.old.state) (total_in self.old.state + batch_total (arc_value b))) }
         ensures known { IfOk result (λ r. AreFrom r.known (arc_value b ∷ [])) }
+        ensures given { IfOk result (λ r. IsGiven N.opened (arc_value b) r.known r.kept) }
         ensures refused { OnErr result (self.new.state ≡ self.old.state) }
         ensures parts { (first.new.parts ≡ 1) × (second.new.parts ≡ 1) }
         ensures first { OnOk result (first.new.amount ≡ first.old.amount + batch_total (arc_value b)) }

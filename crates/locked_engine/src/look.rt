@@ -115,6 +115,7 @@ impl<N: Named, H: Ledger> Engine<N, H> {
     ) -> Result<Vec<Arc<Batch>>, AllocError>
         ensures number { seat.new.number ≡ seat.old.number }
         ensures first { seat.new.first ≡ seat.old.first }
+        ensures known { seat.new.known ≡ seat.old.known }
         ensures later { IsPrefix seat.old.seen seat.new.seen }
         ensures list { IfOk result (λ list. AreAccepted N.setup (unfolded (values list.items))) }
         ensures shown { IfOk result (λ list.
@@ -141,6 +142,7 @@ impl<N: Named, H: Ledger> Engine<N, H> {
     ) -> Result<BookList, AllocError>
         ensures number { seat.new.number ≡ seat.old.number }
         ensures first { seat.new.first ≡ seat.old.first }
+        ensures known { seat.new.known ≡ seat.old.known }
         ensures later { IsPrefix seat.old.seen seat.new.seen }
         ensures list { IfOk result (λ list. AreAccepted N.setup (accepted_in list)) }
         ensures dims { IfOk result (λ list. list ≡ listed_in N.setup (accepted_in list)) }
@@ -159,6 +161,7 @@ impl<N: Named, H: Ledger> Engine<N, H> {
     pub fn folded<R: Wait>(&self, rt: &R, seat: &mut Seat<N, H>) -> Option<u64>
         ensures number { seat.new.number ≡ seat.old.number }
         ensures first { seat.new.first ≡ seat.old.first }
+        ensures known { seat.new.known ≡ seat.old.known }
         ensures later { IsPrefix seat.old.seen seat.new.seen }
         ensures folded { IfSome result (λ n. (a : Accepted) × AreAccepted N.setup a × (entries_in a ≡ seat.new.seen)
             × SharePast a N.opened × (n ≡ length a.folded)) }
@@ -175,6 +178,7 @@ impl<N: Named, H: Ledger> Engine<N, H> {
     pub fn status(&self, seat: &mut Seat<N, H>) -> Status
         ensures number { seat.new.number ≡ seat.old.number }
         ensures first { seat.new.first ≡ seat.old.first }
+        ensures known { seat.new.known ≡ seat.old.known }
         ensures later { IsPrefix seat.old.seen seat.new.seen }
         ensures status { result ≡ version_status seat.new.seen }
         ensures legal { IsVersion N.setup seat.new.seen }

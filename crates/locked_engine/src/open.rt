@@ -27,8 +27,8 @@ impl<N: Named, H: Ledger> Engine<N, H> {
     /// version for each shard, a place for each seat, and what shows readers the status.
     ///
     /// N and H name `names`, which were made from `plain`, and N what `plain` has accepted: whoever calls with `Brand`
-    /// for both picks them so. Each seat is shown the entries of that. What is folded in it stays so; more is folded by
-    /// `Engine::fold`.
+    /// for both picks them so. Each seat is shown the entries of that, and knows its batches. What is folded in it stays
+    /// so; more is folded by `Engine::fold`.
     ///
     /// # Errors
     ///
@@ -42,7 +42,7 @@ impl<N: Named, H: Ledger> Engine<N, H> {
         requires made_from { plain.setup ≡ names.setup }
         requires opened { plain.book.state ≡ N.opened }
         ensures seats { IfOk result (λ r. r.1.items ≡
-            opened_seats (entries_in plain.book.state) (total_in plain.book.state) N.seats) }
+            opened_seats (entries_in plain.book.state) plain.book.state.list (total_in plain.book.state) N.seats) }
         ensures err { IfErr result (λ r. (r.0 ≡ plain) × (r.1 ≡ names)) }
     {
         let count = names.seats();
@@ -70,7 +70,7 @@ impl<N: Named, H: Ledger> Engine<N, H> {
             &mut seats,
             &mut first,
             &mut second,
-            &version,
+            &history,
             writer.factory(),
         );
         let locked = LockedBook::make(book, first_number, second_number, history, writer);
@@ -135,15 +135,15 @@ fn lock_all<N: Named, H: Ledger>(
     }
 }
 
-// Gives a part of both shares to each of the seats, and the first share's amount to the first. Each was shown this, and
-// has a place for a reader, where that is to be had.
+// Gives a part of both shares to each of the seats, and the first share's amount to the first. Each was shown all of the
+// history, and has a place for a reader, where that is to be had.
 fn make_seats<N: Named, H: Ledger>(
     count: usize,
     total: u64,
     seats: &mut Vec<Seat<N, H>>,
     first: &mut Share<N>,
     second: &mut Share<H>,
-    version: &Version<N>,
+    history: &History<N>,
     readers: &VersionFactory<N>,
 )
     requires empty { seats.old.items ≡ [] }
@@ -151,12 +151,13 @@ fn make_seats<N: Named, H: Ledger>(
     requires some { 0 < count }
     requires parts { (first.old.parts ≡ count) × (second.old.parts ≡ count) }
     requires amounts { (first.old.amount ≡ total) × (second.old.amount ≡ 0) }
-    ensures { seats.new.items ≡ opened_seats version.now total count }
+    ensures { seats.new.items ≡ opened_seats history.now.entries history.now.batches total count }
 {
     'seats: for i in 0..count {
         let own = first.split_off(1, if i == 0 { total } else { 0 });
         let part = second.split_off(1, 0);
         let reader = readers.reader().ok();
-        seats.push_reserved(Seat::make(i, own, part, version.again(), reader));
+        let (seen, known) = (history.version(), history.known());
+        seats.push_reserved(Seat::make(i, own, part, seen, known, reader));
     }
 }

@@ -8,6 +8,7 @@ ghost use Rattle.batch_store.specs.BatchParts.{parts_if_any};
 ghost use Rattle.batch_store.specs.Parts.{below};
 ghost use Rattle.batch_store.specs.declared.verdict.Verdict.TheVariants.{Fresh};
 ghost use Rattle.plain_engine.specs.Known.{AreFrom};
+ghost use Rattle.locked_engine.specs.Given.{IsGiven};
 ghost use Rattle.locked_engine.specs.Told.{IsTold, answer_of};
 ghost use Rattle.locked_engine.specs.Versions.{entry_verdict};
 
@@ -73,8 +74,10 @@ impl<N: Named, H: Ledger> Engine<N, H> {
     /// nobody calls that, a layer comes to have as many parts as it holds at most, of which a look-up asks each; the
     /// put that meets such a layer adds it up, under the shard's lock.
     ///
-    /// A first acceptance raises the seat's first share by the batch's total. After every other answer that share is as
-    /// before, and so are, as far as this call goes, every shard and the book, but for free places.
+    /// A first acceptance raises the seat's first share by the batch's total. It is the batch itself that is shared, at
+    /// the book and, by its parts, at the shards: from then on the seat knows it among the accepted ones, at the index of
+    /// the reply. After every other answer that share is as before, and so are, as far as this call goes, every shard and
+    /// the book, but for free places.
     ///
     /// Each time the book's lock is taken the seat is shown the book's entries. The answer follows from what it was
     /// shown last, in which an accepted batch's entry stands (specs/Told.antt).
@@ -94,11 +97,13 @@ impl<N: Named, H: Ledger> Engine<N, H> {
         requires rows { (arc_value b).matrix.rows ≡ N.setup.rows }
         requires cols { (arc_value b).matrix.cols ≡ N.setup.cols }
         ensures number { seat.new.number ≡ seat.old.number }
-        ensures ok { OnOk result ((seat.new.first ≡ seat.old.first + batch_total (arc_value b))
-            ⊎ (seat.new.first ≡ seat.old.first)) }
+        // A first acceptance is of this very batch.
+        ensures ok { IfOk result (λ k. (IsGiven N.opened (arc_value b) seat.new.known k
+            × (seat.new.first ≡ seat.old.first + batch_total (arc_value b))) ⊎ (seat.new.first ≡ seat.old.first)) }
         ensures err { OnErr result (seat.new.first ≡ seat.old.first) }
         ensures later { IsPrefix seat.old.seen seat.new.seen }
         ensures told { IsTold N.setup (entry_of (arc_value b)) seat.new.seen result }
+        ensures knows { IsPrefix seat.old.known seat.new.known }
     {
         match self.put_shares(
             rt,
@@ -108,8 +113,8 @@ impl<N: Named, H: Ledger> Engine<N, H> {
             &mut seat.seen,
             &b,
         ) {
-            Ok(kept) => {
-                seat.note_accepted();
+            Ok(Admitted { kept, known }) => {
+                seat.note_accepted(&known);
                 Ok(kept)
             }
             Err(other) => other.answer(),
@@ -131,6 +136,7 @@ impl<N: Named, H: Ledger> Engine<N, H> {
     ) -> Option<Result<Kept, PutFault>>
         ensures number { seat.new.number ≡ seat.old.number }
         ensures first { seat.new.first ≡ seat.old.first }
+        ensures known { seat.new.known ≡ seat.old.known }
         ensures later { IsPrefix seat.old.seen seat.new.seen }
         ensures told { IfSome result (λ r. IsTold N.setup (entry_of b.now) seat.new.seen r) }
         ensures fresh { IfNone result (entry_verdict N.setup seat.new.seen (entry_of b.now) ≡ Fresh) }
@@ -195,6 +201,7 @@ impl<N: Named, H: Ledger> Engine<N, H> {
         ensures later { IsPrefix seen.old seen.new }
         ensures ok { IfOk result (λ r. IsTold N.setup (entry_of (arc_value b)) seen.new (Ok r.kept)) }
         ensures known { IfOk result (λ r. AreFrom r.known (arc_value b ∷ [])) }
+        ensures given { IfOk result (λ r. IsGiven N.opened (arc_value b) r.known r.kept) }
         ensures err { IfErr result (λ u. IsTold N.setup (entry_of (arc_value b)) seen.new (answer_of u)) }
     {
         let mut locked = self.book.lock(rt);
@@ -203,7 +210,7 @@ impl<N: Named, H: Ledger> Engine<N, H> {
         answer
     }
 
-    // Puts a batch from a seat that has these shares of the ledgers. Ok is a first acceptance.
+    // Puts a batch from a seat that has these shares of the ledgers. Ok is a first acceptance, of this very batch.
     fn put_shares<R: Wait>(
         &self,
         rt: &R,
@@ -212,7 +219,7 @@ impl<N: Named, H: Ledger> Engine<N, H> {
         second: &mut Share<H>,
         seen: &mut Version<N>,
         b: &Arc<Batch>,
-    ) -> Result<Kept, NotAdmitted>
+    ) -> Result<Admitted<N>, NotAdmitted>
         requires rows { (arc_value b.now).matrix.rows ≡ N.setup.rows }
         requires cols { (arc_value b.now).matrix.cols ≡ N.setup.cols }
         requires parts { (first.old.parts ≡ 1) × (second.old.parts ≡ 1) }
@@ -222,7 +229,8 @@ impl<N: Named, H: Ledger> Engine<N, H> {
         ensures first { OnOk result (first.new.amount ≡ first.old.amount + batch_total (arc_value b.now)) }
         ensures first_kept { OnErr result (first.new.amount ≡ first.old.amount) }
         ensures later { IsPrefix seen.old seen.new }
-        ensures ok { IfOk result (λ k. IsTold N.setup (entry_of (arc_value b.now)) seen.new (Ok k)) }
+        ensures ok { IfOk result (λ r. IsTold N.setup (entry_of (arc_value b.now)) seen.new (Ok r.kept)) }
+        ensures given { IfOk result (λ r. IsGiven N.opened (arc_value b.now) r.known r.kept) }
         ensures err { IfErr result (λ u. IsTold N.setup (entry_of (arc_value b.now)) seen.new (answer_of u)) }
     {
         self.ask(rt, seen, b)?;
@@ -232,10 +240,10 @@ impl<N: Named, H: Ledger> Engine<N, H> {
             place,
             parts,
         } = make(alloc, self.setup.shards(), b)?;
-        let Admitted { kept, known: _ } = self.put_from(
+        let admitted = self.put_from(
             rt, alloc, first, second, seen, place, own, &parts, &mut past, 0,
         )?;
-        Ok(kept)
+        Ok(admitted)
     }
 
     // The shards from s on: each that the batch concerns is locked and made ready, then the book accepts, and on the
@@ -271,6 +279,7 @@ impl<N: Named, H: Ledger> Engine<N, H> {
         ensures later { IsPrefix seen.old seen.new }
         ensures ok { IfOk result (λ r. IsTold N.setup (entry_of (arc_value b)) seen.new (Ok r.kept)) }
         ensures known { IfOk result (λ r. AreFrom r.known (arc_value b ∷ [])) }
+        ensures given { IfOk result (λ r. IsGiven N.opened (arc_value b) r.known r.kept) }
         ensures err { IfErr result (λ u. IsTold N.setup (entry_of (arc_value b)) seen.new (answer_of u)) }
     {
         if s == self.setup.shards() {

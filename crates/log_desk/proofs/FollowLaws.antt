@@ -33,6 +33,15 @@ module _ (from : ℕ) (es seen : List Entry) (h : Follows from es seen) where
 abbrev Begins : List Entry → List Entry → Type 0
 Begins old seen = length old ≤ length seen → old ≡ take (length old) seen
 
+-- what is durable, and a group after it, begin what was shown
+pub group_prefix : (old es seen : List Entry) (from : ℕ) → from ≡ length old → Follows from es seen →
+    Begins old seen → IsPrefix (old ++ es) seen
+group_prefix old es seen from len h begins = (
+  h.next.0,
+  ap (λ l. (l ++ es) ++ h.next.0)
+      (begins (omega (arith, len, h.within)) ∙ ap (λ n. take n seen) (sym len)) ∙ h.next.1,
+)
+
 -- a group behind what is durable, with the status of both
 module _ (old es seen : List Entry) (from : ℕ) (len : from ≡ length old) (h : Follows from es seen)
     (s : Status) (is : s ≡ version_status (old ++ es)) where

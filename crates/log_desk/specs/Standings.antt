@@ -7,9 +7,13 @@
 --     IsNamed log has the log has the path under which it is to be, if there is one
 --     IsWord synced word
 --                     what logs of a type have answered to have synced, the log of the engine has
+--     EndsBefore synced known index from
+--                     a log has answered Ok to a sync of this number of entries, which begin what is known as durable;
+--                     and that doesn't reach this index
 --     IsGroup         the entries of some batches stand behind those that were durable, and of the pages that were ready
 --                     no more are gone than a block of these batches takes
-use Rattle.std.specs.Prelude.{◌≡◌, ℕ, ◌+◌, ◌≤◌, List, ◌++◌, Bool, Option, Some}
+use Rattle.std.specs.Prelude.{◌≡◌, ℕ, ◌+◌, ◌≤◌, List, ◌++◌, length, Bool, Option, Some}
+use mathlib.Core.List.{IsPrefix}
 use Rattle.batch_store.specs.declared.verdict.Entry.{Entry}
 use Rattle.batch_store.specs.Batches.{Submission, entries_of}
 
@@ -34,6 +38,13 @@ IsNamed log has = (path : List ℕ) → log ≡ Some path → has path
 
 abbrev pub IsWord : (List Entry → Type 0) → (List Entry → Type 0) → Type 0
 IsWord synced word = (es : List Entry) → synced es → word es
+
+pub record EndsBefore (synced : List Entry → Type 0) (known : List Entry) (index from : ℕ) : Type 0 where
+  pub entries : List Entry
+  pub durable : synced entries
+  pub count : length entries ≡ from
+  pub begins : IsPrefix entries known
+  pub short : length known ≤ index
 
 pub record IsGroup (takes : List Submission → ℕ) (old new : List Entry) (before after : ℕ) : Type 0 where
   pub list : List Submission

@@ -3,7 +3,7 @@ ghost use Rattle.std.specs.Prelude.{◌≡◌, ◌≢◌, ◌<◌, true, false, 
 ghost use Rattle.std.specs.Bool.{OnTrue};
 ghost use mathlib.Core.List.{IsPrefix};
 ghost use Rattle.locked_engine.specs.Versions.{version_status};
-ghost use Rattle.log_desk.specs.Standings.{IsNamed, IsWord};
+ghost use Rattle.log_desk.specs.Standings.{EndsBefore, IsNamed, IsWord};
 
 use crate::durable::Durable;
 use crate::fault::DeskFault;
@@ -86,7 +86,7 @@ impl<N: Named, L: Log> LogDesk<N, L> {
         ensures ok { IfOk result (λ t. t ≡ pages) }
         ensures told { result ≡ Err DeskFault.LogFailed → L.has_failed }
         ensures full { result ≡ Err DeskFault.LogFull → L.was_full }
-        ensures belong { result ≢ Err DeskFault.HistoriesDiffer }
+        ensures belong { (none : _) → result ≢ Err (DeskFault.HistoriesDiffer none) }
     {
         for _ in rt.forever() {
             let mut state = self.told.wait_while(
@@ -130,7 +130,7 @@ impl<N: Named, L: Log> LogDesk<N, L> {
     ///
     /// - `LogFailed`: a call on the log has failed. The place may be durable or not, and no call on it is made again.
     /// - `LogFull`: the log has no room, though it was promised.
-    /// - `HistoriesDiffer`: the book hasn't that place.
+    /// - `HistoriesDiffer`: the book hasn't that place. It was asked for its batches from the end of what is durable.
     pub fn wait<H: Ledger, R: Wait>(
         &self,
         rt: &R,
@@ -142,6 +142,8 @@ impl<N: Named, L: Log> LogDesk<N, L> {
         ensures ok { OnOk result (index < length known.new) }
         ensures told { result ≡ Err DeskFault.LogFailed → L.has_failed }
         ensures full { result ≡ Err DeskFault.LogFull → L.was_full }
+        ensures differ { (none : _) → result ≡ Err (DeskFault.HistoriesDiffer none) →
+            EndsBefore L.was_synced known.new index none.from }
     {
         for _ in rt.forever() {
             let mut state = self.state.lock(rt);
@@ -175,6 +177,8 @@ impl<N: Named, L: Log> LogDesk<N, L> {
         requires works { turn.failed ≡ false }
         ensures told { result ≡ Err DeskFault.LogFailed → L.has_failed }
         ensures full { result ≡ Err DeskFault.LogFull → L.was_full }
+        ensures differ { (none : _) → result ≡ Err (DeskFault.HistoriesDiffer none) →
+            (none.from ≡ length turn.durable) × L.was_synced turn.durable }
     {
         let mut turn = turn;
         self.wait_for_followers(rt);

@@ -1,5 +1,5 @@
 //! What is known as durable.
-ghost use Rattle.std.specs.Prelude.{◌≡◌, ◌≤◌, ◌<◌, ◌++◌, List, length, take, slice_get, IfSome};
+ghost use Rattle.std.specs.Prelude.{◌≡◌, ◌≤◌, ◌<◌, ◌++◌, List, length, take, slice_get};
 ghost use mathlib.Core.List.{IsPrefix};
 ghost use Rattle.batch_store.specs.declared.verdict.Entry.{Entry};
 ghost use Rattle.batch_store.specs.Batches.{entries_of, values};
@@ -74,19 +74,21 @@ impl<N: Named, L: Log> Durable<N, L> {
         self.status
     }
 
-    /// The status with these batches behind what is durable. None where that is no number of 64 bits, to which a book's
-    /// limit never lets it come.
-    pub fn status_with(&self, batches: &[Arc<Batch>]) -> Option<Status>
-        ensures { IfSome result (λ s. s ≡ version_status (self.now ++ entries_of (values batches.now))) }
+    /// The status of what is durable and these batches after it. A version begins with all of them, so no sum wraps.
+    pub fn status_with(&self, batches: &[Arc<Batch>], version: &Version<N>) -> Status
+        requires { IsPrefix (self.now ++ entries_of (values batches.now)) version.now }
+        ensures { result ≡ version_status (self.now ++ entries_of (values batches.now)) }
     {
+        // A version keeps within the setup's limits.
+        let _whole = version.status();
         let mut status = self.status;
         for batch in batches {
             status = Status {
-                batches: status.batches.checked_add(1)?,
-                total: status.total.checked_add(batch.entry().total)?,
+                batches: status.batches + 1,
+                total: status.total + batch.entry().total,
             };
         }
-        Some(status)
+        status
     }
 
     /// A copy.

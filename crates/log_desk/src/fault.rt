@@ -1,5 +1,6 @@
 //! What can go wrong at a log and at its desk.
 
+use locked_engine::NoneShared;
 use thiserror::Error;
 
 /// A write or a sync of a log has failed. What of the block is on the device is unknown.
@@ -27,7 +28,8 @@ pub enum DeskFault {
     /// A call on the log has failed. It stays so until a fresh log is put in its place.
     #[error("the log has failed")]
     LogFailed,
-    /// The book and the log don't belong together. Nobody meets it whom the book that the log is of has told the place.
+    /// The book and the log don't belong together: the book had no batch after the end of the log, and this is its answer.
+    /// No put meets it whose index is one of the log's own book.
     #[error("the book and its log differ")]
-    HistoriesDiffer,
+    HistoriesDiffer(NoneShared),
 }

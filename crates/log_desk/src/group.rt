@@ -61,7 +61,7 @@ impl<N: Named> Group<N> {
     ///
     /// - `LogFailed`: the log failed now.
     /// - `LogFull`: there is no room for it in the log. Nothing was written.
-    /// - `HistoriesDiffer`: the book has nothing after what is durable. Nothing was written.
+    /// - `HistoriesDiffer`: the book was asked, and has nothing after what is durable. Nothing was written.
     pub fn write<L: Log, H: Ledger, R: Wait>(
         &mut self,
         rt: &R,
@@ -81,17 +81,19 @@ impl<N: Named> Group<N> {
         ensures broken { result ≡ Err DeskFault.LogFailed → L.failed log.new ≡ true }
         ensures told { result ≡ Err DeskFault.LogFailed → L.has_failed }
         ensures full { result ≡ Err DeskFault.LogFull → L.was_full }
+        // The book was asked from the end of what a sync has made durable.
+        ensures differ { (none : _) → result ≡ Err (DeskFault.HistoriesDiffer none) →
+            (none.from ≡ length durable.old) × L.was_synced durable.old }
     {
         let Group { seen, batches } = self;
         batches.clear();
-        let from = durable.count();
-        if !engine.batches_from(rt, seen, from, MOST_CELLS, batches) || batches.is_empty() {
-            return Err(DeskFault::HistoriesDiffer);
+        // It says too that a sync has made it durable.
+        let from = durable.status().batches;
+        if let Err(none) = engine.batches_from(rt, seen, from, MOST_CELLS, batches) {
+            return Err(DeskFault::HistoriesDiffer(none));
         }
         durable.begins(seen);
-        let Some(status) = durable.status_with(batches.as_slice()) else {
-            return Err(DeskFault::HistoriesDiffer);
-        };
+        let status = durable.status_with(batches.as_slice(), seen);
         if let Err(fault) = write_block(log, batches.as_slice()) {
             return Err(fault);
         }

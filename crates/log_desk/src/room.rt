@@ -67,7 +67,7 @@ pub fn write_block<L: Log>(log: &mut L, batches: &[Arc<Batch>]) -> Result<(), De
     ensures broken { result ≡ Err DeskFault.LogFailed → L.failed log.new ≡ true }
     ensures told { result ≡ Err DeskFault.LogFailed → L.has_failed }
     ensures full { result ≡ Err DeskFault.LogFull → L.was_full }
-    ensures belong { result ≢ Err DeskFault.HistoriesDiffer }
+    ensures belong { (none : _) → result ≢ Err (DeskFault.HistoriesDiffer none) }
 {
     match make_ready(log, L::pages_of(batches)) {
         Ok(()) => {}

@@ -117,6 +117,8 @@ impl<N: Named, L: Log> Turn<N, L> {
         ensures broken { result ≡ Err DeskFault.LogFailed → self.new.failed ≡ true }
         ensures told { result ≡ Err DeskFault.LogFailed → L.has_failed }
         ensures full { result ≡ Err DeskFault.LogFull → L.was_full }
+        ensures differ { (none : _) → result ≡ Err (DeskFault.HistoriesDiffer none) →
+            (none.from ≡ length self.old.durable) × L.was_synced self.old.durable }
     {
         self.group
             .write(rt, engine, &mut self.log, &mut self.durable)
@@ -137,7 +139,7 @@ impl<N: Named, L: Log> Turn<N, L> {
         ensures broken { result ≡ Err DeskFault.LogFailed → self.new.failed ≡ true }
         ensures told { result ≡ Err DeskFault.LogFailed → L.has_failed }
         ensures full { result ≡ Err DeskFault.LogFull → L.was_full }
-        ensures belong { result ≢ Err DeskFault.HistoriesDiffer }
+        ensures belong { (none : _) → result ≢ Err (DeskFault.HistoriesDiffer none) }
     {
         let answer = make_stretch(&mut self.log, wanted);
         // A stretch would be more.

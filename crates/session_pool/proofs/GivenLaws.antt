@@ -1,5 +1,6 @@
 -- What a keeper over a seat gives.
-use Rattle.std.proofs.Common.{◌≡◌, ◌≤◌, ◌%◌, ℕ, List, length, Option, Some, None, refl, sym, subst}
+use Rattle.std.proofs.Common.{◌≡◌, ◌≤◌, ◌%◌, ℕ, List, [], length, Option, Some, None, refl, sym, ◌∙◌, subst}
+use Rattle.std.proofs.lemmas.List.{append-nil}
 use Rattle.std.specs.Prelude.{IfSome, IfOk, Result, Ok, Err, String, string_bytes}
 use mathlib.Core.List.{IsPrefix}
 use Rattle.std.specs.FinMap.{get}
@@ -7,6 +8,7 @@ use Rattle.layer_compaction.specs.Shared.{content}
 use Rattle.batch_store.specs.Setups.{Setting}
 use Rattle.batch_store.specs.declared.verdict.Entry.{Entry}
 use Rattle.batch_store.specs.Accepted.{Accepted, entries_in, count_in}
+use Rattle.batch_store.specs.Batches.{Submission}
 use Rattle.batch_store.specs.Books.{AreAccepted}
 use Rattle.batch_store.specs.Shards.{Holding}
 use Rattle.locked_engine.specs.Moments.{IsShardOf}
@@ -21,6 +23,9 @@ use Rattle.wire_proto.specs.declared.keeper.SaveRefusal.{SaveRefusal}
 use Rattle.session_pool.specs.Saves.{IsSaved}
 use Rattle.session_pool.specs.Seats.{Sight, Grows, SeatGives}
 
+pub same_begins : (xs ys : List Submission) → ys ≡ xs → IsPrefix xs ys
+same_begins xs ys same = ([], append-nil xs ∙ sym same)
+
 module _ (v : Setting) (opened : Accepted) (saved : Accepted → Type 0) (synced : List Entry → Type 0)
     (failed full : Type 0) where
   -- a cell is what a shard of its row held, and leaves the seat
@@ -33,13 +38,14 @@ module _ (v : Setting) (opened : Accepted) (saved : Accepted → Type 0) (synced
 
   -- a save shows the seat the entries of what was saved
   pub gives_save : (s t : Sight) (r : Result ℕ SaveRefusal) → t.known ≡ s.known → t.seat.number ≡ s.seat.number →
-      IsPrefix s.seat.seen t.seat.seen → t.seat.first ≡ s.seat.first →
+      IsPrefix s.seat.seen t.seat.seen → t.seat.known ≡ s.seat.known → t.seat.first ≡ s.seat.first →
       IfOk r (λ n. (a : Accepted) × AreAccepted v a × (entries_in a ≡ t.seat.seen) × SharePast a opened
       × (n ≡ count_in a) × saved a) → SeatGives v opened saved synced failed full s (save r) t
-  gives_save s t (Err e) known number later first h = (known, (number, later), first)
-  gives_save s t (Ok n) known number later first h = (
+  gives_save s t (Err e) known number later knows first h =
+      (known, (number, later, same_begins s.seat.known t.seat.known knows), first)
+  gives_save s t (Ok n) known number later knows first h = (
     known,
-    (number, later),
+    (number, later, same_begins s.seat.known t.seat.known knows),
     first,
     h.0,
     h.1,
@@ -52,13 +58,13 @@ module _ (v : Setting) (opened : Accepted) (saved : Accepted → Type 0) (synced
   -- a Stats shows the seat the entries that its status is of
   pub gives_told : (s t : Sight) (setup : Setting) (status : Status) (folded : ℕ) (figures : List Figure) →
       t.known ≡ s.known → t.seat.number ≡ s.seat.number → IsPrefix s.seat.seen t.seat.seen →
-      t.seat.first ≡ s.seat.first → setup ≡ v → status ≡ version_status t.seat.seen →
+      t.seat.known ≡ s.seat.known → t.seat.first ≡ s.seat.first → setup ≡ v → status ≡ version_status t.seat.seen →
       (a : Accepted) × AreAccepted v a × (entries_in a ≡ t.seat.seen) × SharePast a opened
       × (folded ≡ length a.folded) →
       SeatGives v opened saved synced failed full s (stats (Ok (telling setup status folded figures))) t
-  gives_told s t setup status folded figures known number later first is told h = (
+  gives_told s t setup status folded figures known number later knows first is told h = (
     known,
-    (number, later),
+    (number, later, same_begins s.seat.known t.seat.known knows),
     first,
     is,
     told,
@@ -71,13 +77,13 @@ module _ (v : Setting) (opened : Accepted) (saved : Accepted → Type 0) (synced
 
   -- a Fold shows the seat the entries of a list, of which at least as many are folded as the seat had been shown
   pub gives_folded : (s t : Sight) (folded : ℕ) → Grows s.known t.known → t.seat.number ≡ s.seat.number →
-      IsPrefix s.seat.seen t.seat.seen → t.seat.first ≡ s.seat.first →
+      IsPrefix s.seat.seen t.seat.seen → t.seat.known ≡ s.seat.known → t.seat.first ≡ s.seat.first →
       (a : Accepted) × AreAccepted v a × (entries_in a ≡ t.seat.seen) × SharePast a opened
       × (folded ≡ length a.folded) → length s.seat.seen ≤ folded →
       SeatGives v opened saved synced failed full s (fold (Ok folded)) t
-  gives_folded s t folded grows number later first h shown = (
+  gives_folded s t folded grows number later knows first h shown = (
     grows,
-    (number, later),
+    (number, later, same_begins s.seat.known t.seat.known knows),
     first,
     h.0,
     h.1,
@@ -88,9 +94,10 @@ module _ (v : Setting) (opened : Accepted) (saved : Accepted → Type 0) (synced
   )
 
   pub gives_untold : (s t : Sight) (e : AllocError) → t.known ≡ s.known → t.seat.number ≡ s.seat.number →
-      IsPrefix s.seat.seen t.seat.seen → t.seat.first ≡ s.seat.first →
+      IsPrefix s.seat.seen t.seat.seen → t.seat.known ≡ s.seat.known → t.seat.first ≡ s.seat.first →
       SeatGives v opened saved synced failed full s (stats (Err e)) t
-  gives_untold s t e known number later first = (known, (number, later), first)
+  gives_untold s t e known number later knows first =
+      (known, (number, later, same_begins s.seat.known t.seat.known knows), first)
 
 -- what a disk has answered as saved, in the words of the saver
 pub is_saved : {D Z : Type 0} (saves : D → List ℕ → Setting → Accepted → Type 0) (d : D) (o : Option (String Z))

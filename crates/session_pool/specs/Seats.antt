@@ -1,7 +1,9 @@
 -- What an engine of several threads answers by a seat, while others use it, with a log or without one.
 --     Sight               what a session sees: a seat, and with a log what is known as durable
---     LooksOn s t         the same seat, whose version t has grown out of that of s
---     MayRise batch s t   the seat's share rose by the batch's total, or it is as before
+--     LooksOn s t         the same seat, whose version in t has grown out of that in s, and which knows no batch less
+--     MayRise opened batch kept s t
+--                         the seat's share rose by the batch's total, and the seat knows this batch as accepted, at the
+--                         index of this reply; or the share is as before
 --     Grows               what is known as durable only grows
 --     IsLogged            there is a log
 --     IsDurable           with a log, this entry stands at this place of what is known as durable, which was synced
@@ -10,7 +12,7 @@
 --     IsAdmitted          the batch is in what a seat was shown, and its share rose, or the batch was there before
 --     IsLeftOut           the batch is new, and nothing was admitted: the share is as before
 --     TellsLog            a log has answered that it is full, or that it has failed
---     SeatBegins v failed full s batch answer t
+--     SeatBegins v opened failed full s batch answer t
 --                         the engine may answer a put so at once; the log was asked for room alone
 --     SeatSettles         this may be known of a place; the log was asked alone
 --     IsStored            what is told as stored: with a log what is known as durable, which begins what the book has;
@@ -38,6 +40,7 @@ use Rattle.plain_engine.specs.declared.fault.PutFault.{PutFault}
 use Rattle.plain_engine.specs.declared.fault.PutFault.TheVariants.{RecordsDiffer}
 use Rattle.plain_engine.specs.declared.status.Status.{Status}
 use Rattle.locked_engine.specs.Moments.{IsShardOf, AreShards, no_sum, row_sum_in}
+use Rattle.locked_engine.specs.Given.{IsGiven}
 use Rattle.locked_engine.specs.Opened.{SharePast}
 use Rattle.locked_engine.specs.Told.{IsTold}
 use Rattle.locked_engine.specs.Versions.{IsVersion, version_status, entry_verdict}
@@ -57,10 +60,11 @@ abbrev pub sight : SeatView → Option (List Entry) → Sight
 sight seat known = record { seat = seat; known = known }
 
 abbrev pub LooksOn : SeatView → SeatView → Type 0
-LooksOn s t = (t.number ≡ s.number) × IsPrefix s.seen t.seen
+LooksOn s t = (t.number ≡ s.number) × IsPrefix s.seen t.seen × IsPrefix s.known t.known
 
-abbrev pub MayRise : Submission → SeatView → SeatView → Type 0
-MayRise batch s t = (t.first ≡ s.first + batch_total batch) ⊎ (t.first ≡ s.first)
+abbrev pub MayRise : Accepted → Submission → Kept → SeatView → SeatView → Type 0
+MayRise opened batch kept s t =
+    (IsGiven opened batch t.known kept × (t.first ≡ s.first + batch_total batch)) ⊎ (t.first ≡ s.first)
 
 abbrev pub Grows : Option (List Entry) → Option (List Entry) → Type 0
 Grows None known = known ≡ None
@@ -77,10 +81,10 @@ IsDurable synced entry place (Some known) = (slice_get known place ≡ Some entr
 
 -- The share after a refusal. A put that was accepted is refused so where its place can't be settled, since book and log
 -- differ.
-abbrev pub StaysRefused : Option (List Entry) → PutFault → Submission → SeatView → SeatView → Type 0
-StaysRefused None fault batch s t = t.first ≡ s.first
-StaysRefused (Some known) RecordsDiffer batch s t = MayRise batch s t
-StaysRefused (Some known) fault batch s t = t.first ≡ s.first
+abbrev pub StaysRefused : Accepted → Option (List Entry) → PutFault → Submission → SeatView → SeatView → Type 0
+StaysRefused opened None fault batch s t = t.first ≡ s.first
+StaysRefused opened (Some known) RecordsDiffer batch s t = (kept : Kept) × MayRise opened batch kept s t
+StaysRefused opened (Some known) fault batch s t = t.first ≡ s.first
 
 abbrev pub IsNew : Setting → Submission → SeatView → Type 0
 IsNew v batch t = entry_verdict v t.seen (entry_of batch) ≡ Fresh
@@ -88,8 +92,9 @@ IsNew v batch t = entry_verdict v t.seen (entry_of batch) ≡ Fresh
 abbrev pub IsLeftOut : Setting → Submission → SeatView → SeatView → Type 0
 IsLeftOut v batch s t = (t.first ≡ s.first) × IsNew v batch t
 
-abbrev pub IsAdmitted : Setting → Submission → SeatView → SeatView → Type 0
-IsAdmitted v batch s t = MayRise batch s t × (kept : Kept) × IsTold v (entry_of batch) t.seen (Ok kept)
+abbrev pub IsAdmitted : Setting → Accepted → Submission → SeatView → SeatView → Type 0
+IsAdmitted v opened batch s t =
+    (kept : Kept) × MayRise opened batch kept s t × IsTold v (entry_of batch) t.seen (Ok kept)
 
 abbrev pub TellsLog : Type 0 → Type 0 → PutRefusal → Type 0
 TellsLog failed full (Refuses fault) = ⊥
@@ -97,16 +102,16 @@ TellsLog failed full LogFull = full
 TellsLog failed full LogFailed = failed
 
 -- A batch that the book knows is answered so even where the log takes nothing more. A new one is left out then.
-abbrev pub SeatBegins : Setting → Type 0 → Type 0 → Sight → Submission → Result Kept PutRefusal → Sight → Type 0
-SeatBegins v failed full s batch (Ok kept) t =
-    (t.known ≡ s.known) × LooksOn s.seat t.seat × MayRise batch s.seat t.seat ×
+abbrev pub SeatBegins : Setting → Accepted → Type 0 → Type 0 → Sight → Submission → Result Kept PutRefusal → Sight → Type 0
+SeatBegins v opened failed full s batch (Ok kept) t =
+    (t.known ≡ s.known) × LooksOn s.seat t.seat × MayRise opened batch kept s.seat t.seat ×
     IsTold v (entry_of batch) t.seat.seen (Ok kept)
-SeatBegins v failed full s batch (Err (Refuses fault)) t =
+SeatBegins v opened failed full s batch (Err (Refuses fault)) t =
     (t.known ≡ s.known) × LooksOn s.seat t.seat × (t.seat.first ≡ s.seat.first) ×
     IsTold v (entry_of batch) t.seat.seen (Err fault)
-SeatBegins v failed full s batch (Err LogFull) t =
+SeatBegins v opened failed full s batch (Err LogFull) t =
     (t.known ≡ s.known) × LooksOn s.seat t.seat × IsLeftOut v batch s.seat t.seat × IsLogged s.known × full
-SeatBegins v failed full s batch (Err LogFailed) t =
+SeatBegins v opened failed full s batch (Err LogFailed) t =
     (t.known ≡ s.known) × LooksOn s.seat t.seat × IsLeftOut v batch s.seat t.seat × IsLogged s.known × failed
 
 -- what stands at the place of what was shown stands there in what is known as durable
@@ -142,16 +147,16 @@ IsStored v synced a seen (Some known) =
 abbrev pub SeatGives : Setting → Accepted → (Accepted → Type 0) → (List Entry → Type 0) → Type 0 → Type 0 → Sight →
     Event → Sight → Type 0
 SeatGives v opened saved synced failed full s (put batch (Ok kept)) t =
-    Grows s.known t.known × LooksOn s.seat t.seat × MayRise batch s.seat t.seat ×
+    Grows s.known t.known × LooksOn s.seat t.seat × MayRise opened batch kept s.seat t.seat ×
     IsTold v (entry_of batch) t.seat.seen (Ok kept) × IsDurable synced (entry_of batch) kept.index t.known
 SeatGives v opened saved synced failed full s (put batch (Err (Refuses fault))) t =
-    Grows s.known t.known × LooksOn s.seat t.seat × StaysRefused t.known fault batch s.seat t.seat ×
+    Grows s.known t.known × LooksOn s.seat t.seat × StaysRefused opened t.known fault batch s.seat t.seat ×
     IsTold v (entry_of batch) t.seat.seen (Err fault)
 SeatGives v opened saved synced failed full s (put batch (Err LogFull)) t =
     Grows s.known t.known × LooksOn s.seat t.seat × IsLeftOut v batch s.seat t.seat × IsLogged t.known × full
 SeatGives v opened saved synced failed full s (put batch (Err LogFailed)) t =
     Grows s.known t.known × LooksOn s.seat t.seat ×
-    (IsAdmitted v batch s.seat t.seat ⊎ IsLeftOut v batch s.seat t.seat) × IsLogged t.known × failed
+    (IsAdmitted v opened batch s.seat t.seat ⊎ IsLeftOut v batch s.seat t.seat) × IsLogged t.known × failed
 SeatGives v opened saved synced failed full s (cell r c (Some count)) t =
     (t ≡ s) × (x : Holding) × IsShardOf v opened (r % v.shards) x × (get (content x.layers) (r, c) ≡ Some count)
 SeatGives v opened saved synced failed full s (cell r c None) t = t ≡ s

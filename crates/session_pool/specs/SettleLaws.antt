@@ -46,19 +46,23 @@ logged_later (Some es) None g h = absurd g
 logged_later (Some es) (Some fs) g h = tt
 
 -- the share after a refusal of the engine, and of a place that couldn't be settled
-stays_refused : (k : Option (List Entry)) (f : PutFault) (batch : Submission) (s t : SeatView) → t.first ≡ s.first →
-    StaysRefused k f batch s t
-stays_refused None f batch s t h = h
-stays_refused (Some es) fault.Memory batch s t h = h
-stays_refused (Some es) fault.NumberReused batch s t h = h
-stays_refused (Some es) (fault.OverTotal total) batch s t h = h
-stays_refused (Some es) fault.BookFull batch s t h = h
-stays_refused (Some es) fault.RecordsDiffer batch s t h = inr h
+no_reply : Kept
+no_reply = record { index = 0; total_after = 0 }
 
-rises_unsettled : (k : Option (List Entry)) (batch : Submission) (s t : SeatView) → IsLogged k → MayRise batch s t →
-    StaysRefused k fault.RecordsDiffer batch s t
-rises_unsettled None batch s t logged h = absurd logged
-rises_unsettled (Some es) batch s t logged h = h
+module _ (opened : Accepted) where
+  stays_refused : (k : Option (List Entry)) (f : PutFault) (batch : Submission) (s t : SeatView) →
+      t.first ≡ s.first → StaysRefused opened k f batch s t
+  stays_refused None f batch s t h = h
+  stays_refused (Some es) fault.Memory batch s t h = h
+  stays_refused (Some es) fault.NumberReused batch s t h = h
+  stays_refused (Some es) (fault.OverTotal total) batch s t h = h
+  stays_refused (Some es) fault.BookFull batch s t h = h
+  stays_refused (Some es) fault.RecordsDiffer batch s t h = (no_reply, inr h)
+
+  rises_unsettled : (k : Option (List Entry)) (batch : Submission) (kept : Kept) (s t : SeatView) → IsLogged k →
+      MayRise opened batch kept s t → StaysRefused opened k fault.RecordsDiffer batch s t
+  rises_unsettled None batch kept s t logged h = absurd logged
+  rises_unsettled (Some es) batch kept s t logged h = (kept, h)
 
 module _ (synced : List Entry → Type 0) where
   durable_there : (k : Option (List Entry)) (seen : List Entry) (place : ℕ) (e : Entry) →
@@ -100,10 +104,10 @@ module _ (synced : List Entry → Type 0) where
   settles_seat failed m t place place_is.LogFailed h = (h.0, h.1)
   settles_seat failed m t place place_is.RecordsDiffer h = (h.0, h.1)
 
-module _ (v : Setting) (failed full : Type 0) where
+module _ (v : Setting) (opened : Accepted) (failed full : Type 0) where
   -- a put that is begun leaves what is known, and shows the seat no less
   begins_seat : (s m : Sight) (batch : Submission) (answer : Result Kept PutRefusal) →
-      SeatBegins v failed full s batch answer m → (m.known ≡ s.known) × IsPrefix s.seat.seen m.seat.seen
+      SeatBegins v opened failed full s batch answer m → (m.known ≡ s.known) × IsPrefix s.seat.seen m.seat.seen
   begins_seat s m batch (Ok kept) b = (b.0, b.1.1)
   begins_seat s m batch (Err (Refuses f)) b = (b.0, b.1.1)
   begins_seat s m batch (Err LogFull) b = (b.0, b.1.1)
@@ -122,10 +126,10 @@ module _ (v : Setting) (failed full : Type 0) where
 
   -- what is known more by then changes nothing of it
   begins_later : (s m t : Sight) (batch : Submission) (answer : Result Kept PutRefusal) →
-      SeatBegins v failed full s batch answer m → t.seat ≡ m.seat → Grows m.known t.known →
-      SeatBegins v failed full (sight s.seat t.known) batch answer t
+      SeatBegins v opened failed full s batch answer m → t.seat ≡ m.seat → Grows m.known t.known →
+      SeatBegins v opened failed full (sight s.seat t.known) batch answer t
   begins_later s m t batch (Ok kept) b same grows =
-      subst (λ (x : SeatView). (t.known ≡ t.known) × LooksOn s.seat x × MayRise batch s.seat x
+      subst (λ (x : SeatView). (t.known ≡ t.known) × LooksOn s.seat x × MayRise opened batch kept s.seat x
       × IsTold v (entry_of batch) x.seen (Ok kept)) (sym same) (refl, b.1, b.2, b.3)
   begins_later s m t batch (Err (Refuses f)) b same grows =
       subst (λ (x : SeatView). (t.known ≡ t.known) × LooksOn s.seat x × (x.first ≡ s.seat.first)
@@ -139,12 +143,12 @@ module _ (v : Setting) (opened : Accepted) (saved : Accepted → Type 0) (synced
     (failed full : Type 0) where
   -- a refusal is what the put is answered
   pub refused_gives : (s t : Sight) (batch : Submission) (refusal : PutRefusal) →
-      SeatBegins v failed full s batch (Err refusal) t →
+      SeatBegins v opened failed full s batch (Err refusal) t →
       SeatGives v opened saved synced failed full s (put batch (Err refusal)) t
   refused_gives s t batch (Refuses f) b = (
     grows_same s.known t.known b.0,
     b.1,
-    stays_refused t.known f batch s.seat t.seat b.2,
+    stays_refused opened t.known f batch s.seat t.seat b.2,
     b.3,
   )
   refused_gives s t batch LogFull b = (
@@ -164,12 +168,12 @@ module _ (v : Setting) (opened : Accepted) (saved : Accepted → Type 0) (synced
 
   -- what was accepted is answered once its place was settled
   pub answered_gives : (s m t : Sight) (batch : Submission) (kept : Kept) (known : Settled) →
-      SeatBegins v failed full s batch (Ok kept) m → SeatSettles synced failed m kept.index known t →
+      SeatBegins v opened failed full s batch (Ok kept) m → SeatSettles synced failed m kept.index known t →
       SeatGives v opened saved synced failed full s (put batch (settled kept known)) t
   answered_gives s m t batch kept place_is.Durable b h = (
     subst (λ k. Grows k t.known) b.0 h.1,
     subst (LooksOn s.seat) (sym h.0) b.1,
-    subst (MayRise batch s.seat) (sym h.0) b.2,
+    subst (MayRise opened batch kept s.seat) (sym h.0) b.2,
     subst (λ (x : SeatView). IsTold v (entry_of batch) x.seen (Ok kept)) (sym h.0) b.3,
     durable_there synced t.known m.seat.seen kept.index (entry_of batch) b.3.0 h.2,
   )
@@ -177,8 +181,8 @@ module _ (v : Setting) (opened : Accepted) (saved : Accepted → Type 0) (synced
     subst (λ k. Grows k t.known) b.0 h.1,
     subst (LooksOn s.seat) (sym h.0) b.1,
     inl (
-      subst (MayRise batch s.seat) (sym h.0) b.2,
       kept,
+      subst (MayRise opened batch kept s.seat) (sym h.0) b.2,
       subst (λ (x : SeatView). IsTold v (entry_of batch) x.seen (Ok kept)) (sym h.0) b.3,
     ),
     h.2,
@@ -187,18 +191,18 @@ module _ (v : Setting) (opened : Accepted) (saved : Accepted → Type 0) (synced
   answered_gives s m t batch kept place_is.RecordsDiffer b h = (
     subst (λ k. Grows k t.known) b.0 h.1,
     subst (LooksOn s.seat) (sym h.0) b.1,
-    rises_unsettled t.known batch s.seat t.seat h.2 (subst (MayRise batch s.seat) (sym h.0) b.2),
+    rises_unsettled opened t.known batch kept s.seat t.seat h.2 (subst (MayRise opened batch kept s.seat) (sym h.0) b.2),
     tt,
   )
 
   -- what is settled behind a put that was begun could have been settled before it
   pub settled_earlier : (s m t : Sight) (batch : Submission) (answer : Result Kept PutRefusal) (place : ℕ)
-      (known : Settled) → SeatBegins v failed full s batch answer m → SeatSettles synced failed m place known t →
+      (known : Settled) → SeatBegins v opened failed full s batch answer m → SeatSettles synced failed m place known t →
       SeatSettles synced failed s place known (sight s.seat t.known) ×
-      SeatBegins v failed full (sight s.seat t.known) batch answer t
+      SeatBegins v opened failed full (sight s.seat t.known) batch answer t
   settled_earlier s m t batch answer place known b h =
-      let begun = begins_seat v failed full s m batch answer b in
+      let begun = begins_seat v opened failed full s m batch answer b in
       let seat = settles_seat synced failed m t place known h in (
         settles_before synced failed s m t place known begun.0 begun.1 h,
-        begins_later v failed full s m t batch answer b seat.0 seat.1,
+        begins_later v opened failed full s m t batch answer b seat.0 seat.1,
       )

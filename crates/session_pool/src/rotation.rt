@@ -31,7 +31,7 @@ pub(crate) struct LogNames<'a> {
 fn not_written(fault: DeskFault) -> SaveFault {
     match fault {
         DeskFault::LogFailed => SaveFault::Sync,
-        DeskFault::LogFull | DeskFault::HistoriesDiffer => {
+        DeskFault::LogFull | DeskFault::HistoriesDiffer(_) => {
             SaveFault::Write(WriteFault { written: 0 })
         }
     }

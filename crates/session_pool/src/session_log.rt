@@ -63,7 +63,7 @@ impl<'a, N: Named, L: Log> SessionLog<'a, N, L> {
             Err(DeskFault::LogFull) => Err(PutRefusal::LogFull),
             Err(DeskFault::LogFailed) => Err(PutRefusal::LogFailed),
             // Room is asked for alone, and not whether the book has a place.
-            Err(DeskFault::HistoriesDiffer) => unreachable!(),
+            Err(DeskFault::HistoriesDiffer(_)) => unreachable!(),
         }
     }
 
@@ -90,7 +90,7 @@ impl<'a, N: Named, L: Log> SessionLog<'a, N, L> {
         why: PutRefusal,
     ) -> Result<Kept, PutRefusal>
         requires told { TellsLog L.has_failed L.was_full why }
-        ensures { SeatBegins N.setup L.has_failed L.was_full (sight seat.old (Some self.old)) (arc_value batch.now)
+        ensures { SeatBegins N.setup N.opened L.has_failed L.was_full (sight seat.old (Some self.old)) (arc_value batch.now)
             result (sight seat.new (Some self.new)) }
     {
         match engine.judge(rt, seat, batch) {
@@ -122,7 +122,7 @@ impl<'a, N: Named, L: Log> SessionLog<'a, N, L> {
     ) -> Result<Kept, PutRefusal>
         requires rows { (arc_value batch).matrix.rows ≡ N.setup.rows }
         requires cols { (arc_value batch).matrix.cols ≡ N.setup.cols }
-        ensures { SeatBegins N.setup L.has_failed L.was_full (sight seat.old (Some self.old)) (arc_value batch)
+        ensures { SeatBegins N.setup N.opened L.has_failed L.was_full (sight seat.old (Some self.old)) (arc_value batch)
             result (sight seat.new (Some self.new)) }
     {
         let ticket = match self.enter(rt, &batch) {
@@ -177,7 +177,8 @@ impl<'a, N: Named, L: Log> SessionLog<'a, N, L> {
         match answer {
             Ok(()) => {}
             Err(DeskFault::LogFailed) => return Settled::LogFailed,
-            Err(DeskFault::LogFull | DeskFault::HistoriesDiffer) => return Settled::RecordsDiffer,
+            Err(DeskFault::LogFull | DeskFault::HistoriesDiffer(_)) =>
+                return Settled::RecordsDiffer,
         }
         // What the seat was shown has the same there.
         self.known.joins(&seat.version());
@@ -225,7 +226,9 @@ impl<'a, N: Named, L: Log> SessionLog<'a, N, L> {
         match self.wait(rt, engine, last) {
             Ok(()) => Ok(()),
             Err(DeskFault::LogFailed) => Err(FoldRefusal::LogFailed),
-            Err(DeskFault::LogFull | DeskFault::HistoriesDiffer) => Err(FoldRefusal::RecordsDiffer),
+            Err(DeskFault::LogFull | DeskFault::HistoriesDiffer(_)) => {
+                Err(FoldRefusal::RecordsDiffer)
+            }
         }
     }
 

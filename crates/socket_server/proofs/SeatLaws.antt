@@ -4,18 +4,20 @@ use Rattle.std.proofs.Common.{slice_set, arith}
 use Rattle.std.specs.Prelude.{Some, slice_get, take, drop}
 use mathlib.Core.List.{IsPrefix}
 use Rattle.batch_store.specs.declared.verdict.Entry.{Entry}
+use Rattle.batch_store.specs.Batches.{Submission}
 use Rattle.locked_engine.specs.Opened.{opened_seat, opened_seats}
 use Rattle.locked_engine.specs.Told.{AreShown}
 use Rattle.locked_engine.specs.Views.{SeatView}
 use Rattle.locked_engine.proofs.PrefixLaws.{prefix_trans}
 
 -- they are as many as were asked for
-pub opened_count : (shown : List Entry) (total n : ℕ) → length (opened_seats shown total n) ≡ n
-opened_count shown total zero = refl
-opened_count shown total (suc n) = omega (
+pub opened_count : (shown : List Entry) (known : List Submission) (total n : ℕ) →
+    length (opened_seats shown known total n) ≡ n
+opened_count shown known total zero = refl
+opened_count shown known total (suc n) = omega (
   arith,
-  length-append (opened_seats shown total n) (opened_seat shown total n ∷ []),
-  opened_count shown total n,
+  length-append (opened_seats shown known total n) (opened_seat shown known total n ∷ []),
+  opened_count shown known total n,
 )
 
 -- each of these seats was shown just this
@@ -27,11 +29,12 @@ have_seen_append : (es : List Entry) (xs ys : List SeatView) → HaveSeen es xs 
 have_seen_append es [] ys xh yh = yh
 have_seen_append es (x ∷ xs) ys xh yh = (xh.0, have_seen_append es xs ys xh.1 yh)
 
-opened_seen : (shown : List Entry) (total n : ℕ) → HaveSeen shown (opened_seats shown total n)
-opened_seen shown total zero = tt
-opened_seen shown total (suc n) =
-    have_seen_append shown (opened_seats shown total n) (opened_seat shown total n ∷ []) (opened_seen shown total n)
-    (refl, tt)
+opened_seen : (shown : List Entry) (known : List Submission) (total n : ℕ) →
+    HaveSeen shown (opened_seats shown known total n)
+opened_seen shown known total zero = tt
+opened_seen shown known total (suc n) =
+    have_seen_append shown (opened_seats shown known total n) (opened_seat shown known total n ∷ [])
+    (opened_seen shown known total n) (refl, tt)
 
 head_seen : (es : List Entry) (seats : List SeatView) (s : SeatView) → HaveSeen es seats → Some s ≡ slice_get seats 0
     → s.seen ≡ es
@@ -39,10 +42,11 @@ head_seen es [] s h is = absurd (cc is)
 head_seen es (x ∷ xs) s h is = let same : s ≡ x = cc is in subst (λ (y : SeatView). y.seen ≡ es) (sym same) h.0
 
 -- the first was shown what the engine was opened with
-pub first_seen : (shown : List Entry) (total n : ℕ) (seats : List SeatView) (s : SeatView) →
-    seats ≡ opened_seats shown total n → Some s ≡ slice_get seats 0 → s.seen ≡ shown
-first_seen shown total n seats s opened is =
-    head_seen shown seats s (subst (λ (l : List SeatView). HaveSeen shown l) (sym opened) (opened_seen shown total n)) is
+pub first_seen : (shown : List Entry) (known : List Submission) (total n : ℕ) (seats : List SeatView) (s : SeatView) →
+    seats ≡ opened_seats shown known total n → Some s ≡ slice_get seats 0 → s.seen ≡ shown
+first_seen shown known total n seats s opened is =
+    head_seen shown seats s (subst (λ (l : List SeatView). HaveSeen shown l) (sym opened)
+    (opened_seen shown known total n)) is
 
 front_begins : {A : Type 0} (n : ℕ) (xs : List A) → IsPrefix (take n xs) xs
 front_begins zero xs = (xs, refl)

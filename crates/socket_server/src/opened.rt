@@ -61,7 +61,7 @@ impl<N: Named, L: Log> SharedLog<N, L> {
         requires synced { L.was_synced (entries_in N.opened) }
         requires has_name { IsNamed N.log (L.has_name log) }
         requires word { IsWord L.was_synced N.synced }
-        requires seats { (total n : ℕ) × (seats.now ≡ opened_seats (entries_in N.opened) total n) }
+        requires seats { (total n : ℕ) × (seats.now ≡ opened_seats (entries_in N.opened) N.opened.list total n) }
         ensures met { IfErr result IsMetServing }
     {
         let Some(seat) = seats.first() else {
@@ -88,7 +88,7 @@ impl<N: Named, L: Log> SharedLog<N, L> {
     {
         // No place is the last one: groups are written until the book has no more, and that is the answer.
         match self.desk.wait(rt, engine, &mut self.known, u64::MAX) {
-            Ok(()) | Err(DeskFault::HistoriesDiffer) => LogEnd::Written,
+            Ok(()) | Err(DeskFault::HistoriesDiffer(_)) => LogEnd::Written,
             Err(DeskFault::LogFull) => LogEnd::Full,
             Err(DeskFault::LogFailed) => LogEnd::Failed,
         }

@@ -1,7 +1,10 @@
 use Rattle.std.proofs.Common.{◌≡◌, List, [], ◌∷◌, ◌++◌, ◌∙◌, sym, ap, subst, arith, rules, append_assoc}
 use mathlib.Core.List.{IsPrefix}
 use Rattle.batch_store.specs.declared.verdict.Entry.{Entry}
+use Rattle.batch_store.specs.Batches.{Submission}
+use Rattle.locked_engine.specs.Given.{AreKnown}
 use Rattle.locked_engine.specs.Told.{AreShown}
+use Rattle.locked_engine.proofs.GivenLaws.{known_later}
 use Rattle.locked_engine.proofs.PrefixLaws.{prefix_self}
 use Rattle.locked_engine.proofs.ToldLaws.{shown_later}
 use Rattle.std.proofs.lemmas.List.Sums.{sum_by-append}
@@ -37,6 +40,12 @@ loop-seat-preserved g c =
           subst (λ (l : List Entry). IsPrefix l c.learn.new.self) told.seen c.learn.ensures.no_less,
           shown_later inv.shown.0 c.loop-seat.seen c.learn.new.self c.learn.ensures.later inv.shown.2,
         ),
+        (
+          subst (λ (l : List Submission). IsPrefix l c.learn-in-Some-pop.new.self) told.known
+              c.learn-in-Some-pop.ensures.no_less,
+          known_later inv.shown.0 c.loop-seat.known c.learn-in-Some-pop.new.self c.learn-in-Some-pop.ensures.later
+              inv.shown.3,
+        ),
       );
     }
 
@@ -48,6 +57,14 @@ returns-clause-shown g c =
     ∙ ap (λ (l : List SeatView). l ++ inv.shown.0) none) in
     subst (λ (l : List SeatView). AreShown l c.loop-seat.seen) all inv.shown.2
 
+pub returns-clause-known : goal.returns-clause-known
+returns-clause-known g c =
+    let inv = c.loop-seat.invariant in
+    let none : c.loop-seat.seats.items ≡ [] = search rules in
+    let all : inv.shown.0 ≡ c.args.seats.items = sym (inv.shown.1
+    ∙ ap (λ (l : List SeatView). l ++ inv.shown.0) none) in
+    subst (λ (l : List SeatView). AreKnown l c.loop-seat.known) all inv.shown.3
+
 -- the first seat has given its shares
 pub loop-seat-init : goal.loop-seat-init
 loop-seat-init g c =
@@ -57,6 +74,7 @@ loop-seat-init g c =
     let count = c.in-Some.ensures.len in
     let told = c.into_parts-first.ensures in
     let seen = c.into_parts-first.result.2 in
+    let known = c.into_parts-first.result.3 in
     record {
       first_parts = omega (arith, told.one_first, count);
       second_parts = omega (arith, told.one_second, count);
@@ -71,5 +89,6 @@ loop-seat-init g c =
         seat ∷ [],
         popped,
         (subst (λ (l : List Entry). IsPrefix l seen) told.seen (prefix_self seen), tt),
+        (subst (λ (l : List Submission). IsPrefix l known) told.known (prefix_self known), tt),
       );
     }

@@ -5,7 +5,7 @@ use Rattle.locked_engine.proofs.open.make_seats.Given as goal
 
 abbrev pub invariant-seats : goal.invariant-seats
 invariant-seats g l = record {
-  seats : l.seats.items ≡ opened_seats l.version l.total l.i;
+  seats : l.seats.items ≡ opened_seats l.history.entries l.history.batches l.total l.i;
   count : vec_len l.seats ≡ l.i;
   capacity : vec_capacity l.seats ≡ vec_capacity l.initial.seats;
   first_parts : l.first.parts + l.i ≡ l.count;

@@ -6,6 +6,9 @@ use Rattle.locked_engine.specs.Told.{AreShown}
 use Rattle.plain_engine.proofs.KnownLaws.{all_later}
 use Rattle.locked_engine.proofs.ToldLaws.{shown_later}
 use Rattle.locked_engine.proofs.MomentLaws.{based_on}
+use Rattle.locked_engine.specs.Opened.{HasFolded}
+use Rattle.locked_engine.proofs.GivenLaws.{known_later}
+use Rattle.locked_engine.proofs.PrefixLaws.{prefix_trans}
 use Rattle.batch_store.specs.Setups.{Setting}
 use Rattle.plain_engine.specs.Standing.{Standing}
 use Rattle.locked_engine.proofs.engine.Engine.close.Goals as goal
@@ -66,6 +69,28 @@ returns-clause-shown_apart g c = λ shards book e.
     c.end-book.ensures.shown
     c.gather-first.ensures.shown)
 
+-- and what they know begins all batches
+pub returns-in-Ok-clause-known : goal.returns-in-Ok-clause-known
+returns-in-Ok-clause-known g c =
+    let told = c.end-book.ensures.given in (
+      told.0,
+      subst (λ (e : Standing). HasFolded g.N.Named.opened told.0 e.book.state) (sym c.in-Ok.ensures.ok) told.1,
+      known_later c.args.seats.items c.gather-first.result.3 told.0
+          (prefix_trans c.gather-first.result.3 c.learn.new.self told.0 c.learn.ensures.no_less told.2)
+          c.gather-first.ensures.known,
+    )
+
+pub returns-clause-known_apart : goal.returns-clause-known_apart
+returns-clause-known_apart g c = λ shards book e.
+    let same_book : c.end-book.result.0 ≡ book = cc (c.in-Err.ensures.err.0, e) in
+    let told = c.end-book.ensures.given in (
+      told.0,
+      subst (λ (w : Register). HasFolded g.N.Named.opened told.0 w.state) same_book told.1,
+      known_later c.args.seats.items c.gather-first.result.3 told.0
+          (prefix_trans c.gather-first.result.3 c.learn.new.self told.0 c.learn.ensures.no_less told.2)
+          c.gather-first.ensures.known,
+    )
+
 pub returns-in-Ok-clause-opened : goal.returns-in-Ok-clause-opened
 returns-in-Ok-clause-opened g c =
     subst (λ (e : Standing). IsPrefix (entries_in g.N.Named.opened) (entries_in e.book.state)) (sym c.in-Ok.ensures.ok)
@@ -102,6 +127,9 @@ join_known-requires-clause-known g c =
     let told = c.end-book.ensures.known in (
       told.0,
       told.1,
-      all_later c.unlock_all-shards_rebased.new.known (told.0 ++ c.end-book.result.0.state.list) c.unlock_all-shards_rebased.new.shards.items told.2
-          c.unlock_all-shards_rebased.ensures.from,
+      all_later c.learn.new.self (told.0 ++ c.end-book.result.0.state.list)
+          c.unlock_all-shards_rebased.new.shards.items told.2
+          (all_later c.unlock_all-shards_rebased.new.known c.learn.new.self
+          c.unlock_all-shards_rebased.new.shards.items c.learn.ensures.later
+          c.unlock_all-shards_rebased.ensures.from),
     )

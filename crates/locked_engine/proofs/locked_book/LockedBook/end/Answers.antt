@@ -9,7 +9,17 @@ pub returns-clause-past : goal.returns-clause-past
 returns-clause-past g c =
     past_of g.N.Named.opened c.self.inside.history.batches c.self.inside.book.state c.self.invariant.1
 
--- what is known begins the history, and the book's batches stand behind those of it that are folded
+-- what is known begins the history
+pub returns-clause-given : goal.returns-clause-given
+returns-clause-given g c =
+    let history = c.self.inside.history in (
+      history.batches,
+      c.self.invariant.1,
+      subst (λ (l : List Submission). IsPrefix c.args.known.now l)
+          (ap (λ (s : Course). s.batches) (c.contains.ensures.same ∙ c.covers.ensures.same)) c.contains.ensures.begins,
+    )
+
+-- and the book's batches come after those of it that are folded
 pub returns-clause-known : goal.returns-clause-known
 returns-clause-known g c =
     let o = g.N.Named.opened in

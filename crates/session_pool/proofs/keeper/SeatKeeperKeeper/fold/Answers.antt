@@ -17,5 +17,5 @@ returns-in-Some-clause-gives g c =
       gives_folded g.N.Named.setup g.N.Named.opened
           (λ (a : Accepted). IsSaved (of_origin g.R.Disk.saves s.saver.now.origin) s.rt.now s.saver.now.path g.N.Named.setup a) g.L.Log.was_synced
           g.L.Log.has_failed g.L.Log.was_full (sight s.seat.now s.log) (sight c.folded.new.seat c.fold_now-done.new.log)
-          c.in-Some.folded c.fold_now-done.ensures.grows e.number e.later e.first e.folded (omega (arith, shown, enough)),
+          c.in-Some.folded c.fold_now-done.ensures.grows e.number e.later e.known e.first e.folded (omega (arith, shown, enough)),
     )

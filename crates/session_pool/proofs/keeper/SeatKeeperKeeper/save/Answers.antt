@@ -13,5 +13,5 @@ returns-clause-gives g c =
       gives_save g.N.Named.setup g.N.Named.opened
           (λ (a : Accepted). IsSaved (of_origin g.R.Disk.saves s.saver.now.origin) s.rt.now s.saver.now.path g.N.Named.setup a) g.L.Log.was_synced
           g.L.Log.has_failed g.L.Log.was_full (sight s.seat.now s.log) (sight c.save.new.seat s.log) c.save.result
-          refl e.number e.later e.first e.saved,
+          refl e.number e.later e.known e.first e.saved,
     )
