@@ -1,7 +1,0 @@
-use Rattle.std.proofs.Common.{[]}
-use Rattle.open_log.specs.Rotations.{begun}
-use Rattle.socket_server.proofs.file_log.start_untold.Given as goal
-
--- the folder doesn't tell what it holds, so nothing is asked of these
-abbrev pub ghost-start_log : goal.ghost-start_log
-ghost-start_log g a = (begun [] 0, [])
