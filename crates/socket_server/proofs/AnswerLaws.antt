@@ -16,11 +16,12 @@ pub list_made : {D : Type 0} (d : Device D) (tells : Type 0) (stored : D → Typ
     IsList d tells stored named s o v list head.identity head.setup →
     (found : Option (List ℕ)) × IsUnderName d tells stored named found × MakesList s o v found list head
 list_made d tells stored named s o v list head (inl (same, none, asked, whose, setup)) =
-    (None, none, same, asked, whose, setup)
+    (None, none, (same, asked, whose, setup))
 list_made d tells stored named s o v list head (inr (bytes, joined, file)) = (Some bytes, file, joined)
 
--- a host of which nothing more is known has answered so
-pub start_of : {L : Type 0} (s : Setting) (o : LogOwner) (v : Listing) (r : Result (L × Listing × LogOrigin) StartFault) →
-    IfOk r (λ x. (found : Option (List ℕ)) × MakesList s o v found x.1 x.2) → IsAnswer (λ x. ⊤) s o v r
-start_of s o v (Ok x) made = (made.0, tt, made.1)
-start_of s o v (Err fault) made = tt
+-- of a host of which nothing more is known this is an answer
+pub start_of : {L : Type 0} (s : Setting) (o : LogOwner) (v : Listing) (X : Option (List ℕ) → Type 0)
+    (r : Result (L × Listing × LogOrigin) StartFault) →
+    IfOk r (λ x. (found : Option (List ℕ)) × X found × MakesList s o v found x.1 x.2) → IsAnswer (λ x. ⊤) s o v r
+start_of s o v X (Ok x) made = (made.0, tt, made.2)
+start_of s o v X (Err fault) made = tt

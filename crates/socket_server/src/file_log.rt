@@ -8,7 +8,7 @@ ghost use Rattle.log_file.specs.Logs.{Log};
 ghost use Rattle.log_start.specs.Starts.{MayGoOn};
 ghost use Rattle.stored_log.specs.Kept.{WasSynced, is_failed};
 ghost use Rattle.socket_server.specs.Ends.{GoesOn};
-ghost use Rattle.socket_server.specs.Starts.{IsUnderName, MakesList};
+ghost use Rattle.socket_server.specs.Starts.{IsAnswer, IsUnderName, MakesList};
 
 use crate::log_host::{LogHost, LogOrigin};
 use batch_store::{BookList, Setup};
@@ -123,6 +123,33 @@ fn start_in<F: LogFolder>(
     }
 }
 
+// The same of a folder that doesn't tell its files.
+fn start_untold<F: LogFolder>(
+    folder: &mut F,
+    alloc: Global,
+    setup: &Setup,
+    owner: &LogOwner,
+    known: BookList,
+    mark: &mut Option<LogMark>,
+) -> Result<(StoredLog<F::Disk>, BookList, LogOrigin), StartFault>
+    requires untold { F.tells folder.old → ⊥ }
+    requires failures { F.failure_count folder.old + 1 < 2 ^ 64 }
+    requires accepted { AreAccepted setup.now (accepted_in known) }
+    requires based { HasBase setup.now known }
+    ensures answer { IsAnswer (λ answer. ⊤) setup.now owner.now known result }
+    ensures accepted { IfOk result (λ r. AreAccepted setup.now (accepted_in r.1)) }
+    ensures based { IfOk result (λ r. HasBase setup.now r.1) }
+    ensures later { IfOk result (λ r. GoesOn (accepted_in known) (accepted_in r.1)) }
+    ensures folded { IfOk result (λ r. r.1.folded ≡ known.folded) }
+    ensures works { IfOk result (λ r. is_failed F.Disk.in_doubt r.0.in_use ≡ false) }
+    ensures named { IfOk result (λ r. r.0.named ≡ true) }
+    ensures entries { IfOk result (λ r. r.0.entries ≡ entries_in (accepted_in r.1)) }
+    ensures synced { IfOk result (λ r. WasSynced F.Disk.telling F.Disk.tells F.Disk.written F.Disk.may_leave
+        (entries_in (accepted_in r.1))) }
+{
+    start_in(folder, alloc, setup, owner, known, mark)
+}
+
 // Whether a file is under a path.
 fn is_file<R: Files<File = File>>(rt: &R, path: &str) -> bool {
     match fs::metadata(rt, path) {
@@ -169,7 +196,7 @@ impl<R: Files<File = File> + Clock> LogHost<FileLog> for R {
         };
         await_file(self, &folder);
         let mut mark = None;
-        match start_in(&mut folder, alloc, setup, owner, known, &mut mark) {
+        match start_untold(&mut folder, alloc, setup, owner, known, &mut mark) {
             Ok((stored, list, head)) => {
                 note_start(news, mark, folder.has_made());
                 Ok((FileLog::new(stored), list, head))
