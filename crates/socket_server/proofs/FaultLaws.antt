@@ -11,7 +11,7 @@ use Rattle.batch_store.specs.Books.{Listing}
 use Rattle.log_start.specs.declared.fault.StartFault.{StartFault}
 use Rattle.log_start.specs.declared.owner.LogOwner.{LogOwner}
 use Rattle.snap_file.specs.declared.fault.SnapFault.TheVariants as snap
-use Rattle.socket_server.specs.Starts.{IsLoadTold, IsLockTold, IsLogTold, needs_file}
+use Rattle.socket_server.specs.Starts.{IsLoadTold, IsLockTold, IsLogTold, StartAnswer, needs_file}
 use Rattle.socket_server.specs.Ends.{IsShort, stopped}
 use Rattle.socket_server.specs.declared.fault.ServerFault.{ServerFault}
 use Rattle.socket_server.specs.declared.stopped.Stopped.{Stopped}

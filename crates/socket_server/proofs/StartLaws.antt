@@ -26,8 +26,8 @@ use Rattle.socket_server.specs.declared.log_host.LogOrigin.{LogOrigin}
 use Rattle.batch_store.specs.declared.misfit.Misfit.{Misfit}
 use Rattle.socket_server.specs.Starts.{HasLoaded, IsFiles, IsFilesOf, IsFound, IsJoined, IsListOf, IsLoaded}
 use Rattle.socket_server.specs.Starts.{IsLoadTold, IsLogTold, IsMarked, IsMarkedLog, IsStartTold, IsStepFault}
-use Rattle.socket_server.specs.Starts.{StartAnswer, StartsFrom, StartsUnder, asks_log, head_identity, identity_in, most_bytes, needs_file}
-use Rattle.socket_server.specs.Starts.{origin_in, owner_of}
+use Rattle.socket_server.specs.Starts.{StartAnswer, StartsFrom, StartsUnder, asks_log, head_identity, identity_in}
+use Rattle.socket_server.specs.Starts.{most_bytes, needs_file, origin_in, owner_of}
 use Rattle.socket_server.proofs.GivenLaws.{first_misfit, fits_itself}
 
 -- a list with the setup's dimensions is the one that tells what it tells
