@@ -16,8 +16,8 @@ use Rattle.socket_server.specs.Faults.{IsLogFault, IsMet, IsMetServing, TellsNoF
 use Rattle.batch_store.specs.Growth.{IsGrowthMisfit}
 use Rattle.socket_server.specs.Growth.{IsHeadMisfit, IsPlan}
 use Rattle.socket_server.specs.Starts.{IsFiles, IsFound, IsHeadTold, IsJoined, IsLoadTold, IsLoaded, IsLogTold}
-use Rattle.socket_server.specs.Starts.{IsRefused, IsStartTold, IsStepFault, StartAnswer, StartsUnder, asks_log, needs_file}
-use Rattle.socket_server.specs.Starts.{origin_in, owner_of}
+use Rattle.socket_server.specs.Starts.{IsRefused, IsStartTold, IsStepFault, StartAnswer, StartsUnder, asks_log}
+use Rattle.socket_server.specs.Starts.{needs_file, origin_in, owner_of}
 use Rattle.socket_server.specs.declared.fault.ServerFault.{ServerFault}
 use Rattle.socket_server.specs.declared.fault.ServerFault.TheVariants.{Log, LogDiffers, Memory, NeedsLog, NoRandom}
 use Rattle.socket_server.specs.declared.fault.ServerFault.TheVariants.{NeedsNumber, SnapshotDiffers}

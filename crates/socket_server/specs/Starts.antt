@@ -30,8 +30,9 @@
 --                     where there is a log and a path, it has this path by the names that it has
 --     IsReady failed durable synced log a
 --                     where there is a log, it works, and what is durable in it is this, behind a sync
---     StartAnswer     what a host answers to a start of a log: the bytes that it has read of the log's file, or none where
---                     none is there, the list of what was known and of the log, and the log's head; or why there is none
+--     StartAnswer     what a host answers to a start of a log: the bytes that it has read of the log's file, or none
+--                     where none is there, the list of what was known and of the log, and the log's head; or why there
+--                     is none
 --     MakesList p o known found list u
 --                     a start makes this list and this head of what was known and of what was found: of the bytes of a
 --                     file their join, and of no file what was known alone, where none must be there
@@ -42,8 +43,8 @@
 --     StartsUnder loads heads starts saves begins names h path log must_load g f p i a
 --                     under setup p this is accepted, where the files say f: what was loaded where there is no log;
 --                     else just what the host has answered to a start of the log over what was loaded, which goes on
---                     from that, and is made of it and of the bytes that were read of the log's file. The book is i: that of the snapshot, else that of the log, else one that was drawn.
---                     And each file says so
+--                     from that, and is made of it and of the bytes that were read of the log's file. The book is i:
+--                     that of the snapshot, else that of the log, else one that was drawn. And each file says so
 --     StartsFrom loads heads starts saves begins names h path log must_load g q i a
 --                     an engine of setup q, which is the given numbers g over those of the files, starts with this as
 --                     accepted: with what is so under the files' rows and columns, in no fewer of them
@@ -82,8 +83,7 @@ use Rattle.log_start.specs.declared.fault.StartFault.TheVariants as start
 use Rattle.socket_server.specs.declared.log_host.LogOrigin.{LogOrigin}
 use Rattle.log_start.specs.declared.owner.LogOwner.{LogOwner}
 use Rattle.log_disk.specs.declared.disk.LogDisk.{Ghosts as Device}
-use Rattle.log_start.specs.Starts.{AreOfFile}
-use Rattle.log_start.specs.Starts.{IsJoined as AreJoined}
+use Rattle.log_start.specs.Starts.{AreOfFile, IsJoined as AreJoined}
 use Rattle.log_desk.specs.Standings.{IsNamed}
 use Rattle.session_pool.specs.Saves.{IsSaved, of_origin}
 use Rattle.socket_server.specs.Ends.{GoesOn}
