@@ -1,11 +1,13 @@
 //! What a save asks of the folder of a log.
-ghost use Rattle.std.specs.Prelude.{◌≡◌, ◌⊎◌, ℕ, List, true, false, IfOk, OnOk, OnErr};
+ghost use Rattle.std.specs.Prelude.{◌≡◌, ◌⊎◌, ℕ, List, [], true, false, IfOk, OnOk, OnErr, IsSomeAnd};
 ghost use Rattle.batch_store.specs.declared.verdict.Entry.{Entry};
 ghost use Rattle.batch_store.specs.Accepted.{entries_in};
 ghost use Rattle.batch_store.specs.Books.{AreAccepted, accepted_in};
 ghost use Rattle.batch_store.specs.Setups.{Setting};
 ghost use Rattle.snap_file.specs.declared.origin.Identity.{Identity};
+ghost use Rattle.session_pool.specs.Saves.{of_book};
 
+use crate::disk::Disk;
 use batch_store::{BookList, Setup};
 use log_desk::Log;
 use log_folder::LogNews;
@@ -29,14 +31,16 @@ pub trait LogPlace<L: Log> {
     ghost begins: { Self → List ℕ → Setting → Identity → List Entry → Type 0 };
 
     /// Makes a new log of this setup and this identity beside the one under `path`, without blocks, after what the list
-    /// has. The one in use isn't touched.
+    /// has. The one in use isn't touched. Of the list's batches the new log has none: whoever begins it has saved them
+    /// under `snapshot` of this disk, as of the same book, or the list has none.
     ///
     /// # Errors
     ///
     /// `Memory`, `Create`, `Write` or `Sync` where that step failed; `Create` too where the log of another book is under
     /// `path`. The new file is removed then, where that can be done.
-    fn begin_log(
+    fn begin_log<D: Disk>(
         &self,
+        disk: &D,
         alloc: Global,
         path: &str,
         snapshot: Option<&str>,
@@ -46,6 +50,8 @@ pub trait LogPlace<L: Log> {
         news: Option<&Arc<LogNews>>,
     ) -> Result<L, SaveFault>
         requires accepted { AreAccepted setup.now (accepted_in list.now) }
+        requires held { (entries_in (accepted_in list.now) ≡ []) ⊎ IsSomeAnd snapshot (λ saved.
+            of_book D.saves identity disk.now saved.now setup.now (accepted_in list.now)) }
         ensures working { IfOk result (λ new. L.failed new ≡ false) }
         ensures durable { IfOk result (λ new. L.durable new ≡ entries_in (accepted_in list.now)) }
         ensures synced { IfOk result (λ new. L.was_synced (L.durable new)) }

@@ -46,7 +46,7 @@ fn no_room(fault: RoomFault) -> DeskFault {
 }
 
 // Begins a new log after a list, whose entries these are.
-fn begin<N: Named, L: Log, R: LogPlace<L>>(
+fn begin<N: Named, L: Log, R: Disk + LogPlace<L>>(
     rt: &R,
     alloc: Global,
     names: LogNames<'_>,
@@ -55,6 +55,8 @@ fn begin<N: Named, L: Log, R: LogPlace<L>>(
     shown: Version<N>,
 ) -> Result<NewLog<N, L>, SaveFault>
     requires accepted { AreAccepted setup.now (accepted_in list.now) }
+    requires saved { IsSomeAnd names.snapshot (λ path.
+        R.saves rt.now path.now names.origin setup.now (accepted_in list.now)) }
     requires shown { shown ≡ entries_in (accepted_in list.now) }
     ensures works { IfOk result (λ new. new.failed ≡ false) }
     ensures begun { OnOk result (R.begins rt.now names.entry.log.now setup.now names.entry.origin.identity
@@ -64,6 +66,7 @@ fn begin<N: Named, L: Log, R: LogPlace<L>>(
         return Err(SaveFault::Memory);
     };
     match rt.begin_log(
+        rt,
         alloc,
         names.log,
         names.snapshot,
@@ -258,6 +261,7 @@ pub(crate) fn rotate_last<L: Log, R: Disk + LogPlace<L>>(
         (entries_in (accepted_in list.now))) }
 {
     match rt.begin_log(
+        rt,
         alloc,
         names.log,
         names.snapshot,

@@ -11,7 +11,7 @@ use Rattle.batch_store.specs.Books.{Listing}
 use Rattle.log_start.specs.declared.fault.StartFault.{StartFault}
 use Rattle.log_start.specs.declared.owner.LogOwner.{LogOwner}
 use Rattle.snap_file.specs.declared.fault.SnapFault.TheVariants as snap
-use Rattle.socket_server.specs.Starts.{IsLoadTold, IsLockTold, IsLogTold, needs_file}
+use Rattle.socket_server.specs.Starts.{IsLoadTold, IsLockTold, IsLogTold, StartAnswer, needs_file}
 use Rattle.socket_server.specs.Ends.{IsShort, stopped}
 use Rattle.socket_server.specs.declared.fault.ServerFault.{ServerFault}
 use Rattle.socket_server.specs.declared.stopped.Stopped.{Stopped}
@@ -267,7 +267,7 @@ serving_no_log (NotDurable batches) m = absurd m
 pub lock_log_told : {H Y Z : Type 0} (loads : H → List ℕ → ℕ → Result Saved FileFault → Type 0)
     (locks : H → List ℕ → Result Bool FileFault → Type 0)
     (heads : H → List ℕ → Result (Option Setting) StartFault → Type 0)
-    (starts : H → List ℕ → Setting → LogOwner → Listing → Result (Listing × LogOrigin) StartFault → Type 0) (h : H)
+    (starts : H → List ℕ → Setting → LogOwner → Listing → StartAnswer → Type 0) (h : H)
     (path : Option (String Y))
     (log : Option (String Z)) (must_load : Bool) (v : GivenNumbers) (f : ServerFault) → IsLockTold locks h log f →
     IsLogTold loads locks heads starts h path log must_load v f
@@ -276,7 +276,7 @@ lock_log_told loads locks heads starts h path log must_load v f told = inl told
 pub serving_log_told : {H Y Z : Type 0} (loads : H → List ℕ → ℕ → Result Saved FileFault → Type 0)
     (locks : H → List ℕ → Result Bool FileFault → Type 0)
     (heads : H → List ℕ → Result (Option Setting) StartFault → Type 0)
-    (starts : H → List ℕ → Setting → LogOwner → Listing → Result (Listing × LogOrigin) StartFault → Type 0) (h : H)
+    (starts : H → List ℕ → Setting → LogOwner → Listing → StartAnswer → Type 0) (h : H)
     (path : Option (String Y))
     (log : Option (String Z)) (must_load : Bool) (v : GivenNumbers) (f : ServerFault) → IsMetServing f →
     IsLogTold loads locks heads starts h path log must_load v f
@@ -286,7 +286,7 @@ serving_log_told loads locks heads starts h path log must_load v f met =
 pub ending_log_told : {H Y Z : Type 0} (loads : H → List ℕ → ℕ → Result Saved FileFault → Type 0)
     (locks : H → List ℕ → Result Bool FileFault → Type 0)
     (heads : H → List ℕ → Result (Option Setting) StartFault → Type 0)
-    (starts : H → List ℕ → Setting → LogOwner → Listing → Result (Listing × LogOrigin) StartFault → Type 0) (h : H)
+    (starts : H → List ℕ → Setting → LogOwner → Listing → StartAnswer → Type 0) (h : H)
     (path : Option (String Y))
     (log : Option (String Z)) (must_load : Bool) (v : GivenNumbers) (f : ServerFault) → MayEnd IsMetServing f →
     IsLogTold loads locks heads starts h path log must_load v f

@@ -2,6 +2,7 @@ mod SeatLaws
 mod FaultLaws
 mod RefusalLaws
 mod StartLaws
+mod AnswerLaws
 mod GivenLaws
 mod RenewLaws
 mod EndLaws

@@ -16,8 +16,8 @@ use Rattle.socket_server.specs.Faults.{IsLogFault, IsMet, IsMetServing, TellsNoF
 use Rattle.batch_store.specs.Growth.{IsGrowthMisfit}
 use Rattle.socket_server.specs.Growth.{IsHeadMisfit, IsPlan}
 use Rattle.socket_server.specs.Starts.{IsFiles, IsFound, IsHeadTold, IsJoined, IsLoadTold, IsLoaded, IsLogTold}
-use Rattle.socket_server.specs.Starts.{IsRefused, IsStartTold, IsStepFault, StartsUnder, asks_log, needs_file}
-use Rattle.socket_server.specs.Starts.{origin_in, owner_of}
+use Rattle.socket_server.specs.Starts.{IsRefused, IsStartTold, IsStepFault, StartAnswer, StartsUnder, asks_log}
+use Rattle.socket_server.specs.Starts.{needs_file, origin_in, owner_of}
 use Rattle.socket_server.specs.declared.fault.ServerFault.{ServerFault}
 use Rattle.socket_server.specs.declared.fault.ServerFault.TheVariants.{Log, LogDiffers, Memory, NeedsLog, NoRandom}
 use Rattle.socket_server.specs.declared.fault.ServerFault.TheVariants.{NeedsNumber, SnapshotDiffers}
@@ -39,7 +39,7 @@ step_met step (inr (inr (inr is))) = subst (λ (x : StartFault). IsLogFault x) (
 module _ {H Y Z : Type 0} (loads : H → List ℕ → ℕ → Result Saved FileFault → Type 0)
     (locks : H → List ℕ → Result Bool FileFault → Type 0)
     (heads : H → List ℕ → Result (Option Setting) StartFault → Type 0)
-    (starts : H → List ℕ → Setting → LogOwner → Listing → Result (Listing × LogOrigin) StartFault → Type 0) (h : H)
+    (starts : H → List ℕ → Setting → LogOwner → Listing → StartAnswer → Type 0) (h : H)
     (path : Option (String Y)) (log : Option (String Z)) (must_load : Bool) (g : GivenNumbers)
   where
     -- by what a server may meet that has its engine

@@ -26,8 +26,8 @@ use Rattle.socket_server.specs.declared.log_host.LogOrigin.{LogOrigin}
 use Rattle.batch_store.specs.declared.misfit.Misfit.{Misfit}
 use Rattle.socket_server.specs.Starts.{HasLoaded, IsFiles, IsFilesOf, IsFound, IsJoined, IsListOf, IsLoaded}
 use Rattle.socket_server.specs.Starts.{IsLoadTold, IsLogTold, IsMarked, IsMarkedLog, IsStartTold, IsStepFault}
-use Rattle.socket_server.specs.Starts.{StartsFrom, StartsUnder, asks_log, head_identity, identity_in, most_bytes, needs_file}
-use Rattle.socket_server.specs.Starts.{origin_in, owner_of}
+use Rattle.socket_server.specs.Starts.{StartAnswer, StartsFrom, StartsUnder, asks_log, head_identity, identity_in}
+use Rattle.socket_server.specs.Starts.{most_bytes, needs_file, origin_in, owner_of}
 use Rattle.socket_server.proofs.GivenLaws.{first_misfit, fits_itself}
 
 -- a list with the setup's dimensions is the one that tells what it tells
@@ -144,7 +144,7 @@ files_of heads h log g None o f is files = subst (λ (x : Option Origin). IsFile
 
 module _ {H Y Z : Type 0} (loads : H → List ℕ → ℕ → Result Saved FileFault → Type 0)
     (heads : H → List ℕ → Result (Option Setting) StartFault → Type 0)
-    (starts : H → List ℕ → Setting → LogOwner → Listing → Result (Listing × LogOrigin) StartFault → Type 0)
+    (starts : H → List ℕ → Setting → LogOwner → Listing → StartAnswer → Type 0)
     (saves : H → List ℕ → Origin → Setting → Accepted → Type 0)
     (begins : H → List ℕ → Setting → Identity → List Entry → Type 0)
     (names : H → List ℕ → List Entry → Type 0) (h : H) (path : Option (String Y)) (log : Option (String Z))
@@ -194,7 +194,7 @@ module _ {H Y Z : Type 0} (loads : H → List ℕ → ℕ → Result Saved FileF
 module _ {H Y Z : Type 0} (loads : H → List ℕ → ℕ → Result Saved FileFault → Type 0)
     (locks : H → List ℕ → Result Bool FileFault → Type 0)
     (heads : H → List ℕ → Result (Option Setting) StartFault → Type 0)
-    (starts : H → List ℕ → Setting → LogOwner → Listing → Result (Listing × LogOrigin) StartFault → Type 0) (h : H)
+    (starts : H → List ℕ → Setting → LogOwner → Listing → StartAnswer → Type 0) (h : H)
     (path : Option (String Y)) (log : Option (String Z)) (must_load : Bool) (g : GivenNumbers)
   where
     -- a fault of a start over what was loaded is told as one
@@ -231,7 +231,7 @@ module _ {H Y Z : Type 0} (loads : H → List ℕ → ℕ → Result Saved FileF
 
 -- a step by which a log is begun anew is told as one of a start
 pub step_told : {H Z : Type 0}
-    (starts : H → List ℕ → Setting → LogOwner → Listing → Result (Listing × LogOrigin) StartFault → Type 0) (h : H)
+    (starts : H → List ℕ → Setting → LogOwner → Listing → StartAnswer → Type 0) (h : H)
     (log : Option (String Z)) (p : Setting) (o : LogOwner) (known list : Listing) (u : Option LogOrigin)
     (fault : ServerFault) (step : StartFault) → IsJoined starts h log p o known list u → log ≢ None → fault ≡ Log step →
     IsStepFault step → IsStartTold starts h log p o known fault
@@ -239,4 +239,4 @@ step_told starts h None p o known list u fault step joined there is steps = absu
 step_told starts h (Some path) p o known list None fault step joined there is steps = absurd joined
 step_told starts h (Some path) p o known list (Some head) fault step joined there is steps =
     subst (λ (x : ServerFault). IsStartTold starts h (Some path) p o known x) (sym is)
-    (inr (list, head, joined.1, steps))
+    (inr (joined.1, list, head, joined.2, steps))

@@ -24,17 +24,30 @@
 --     IsMarked saves h path f p o x a
 --                     where there is a path, the snapshot there is of setup p and origin x: it was loaded so, or this
 --                     was saved so
+--     IsHeld saves h path u p i a
+--                     the head of the log says this setup and this identity; or, where there is a path, this was saved
+--                     under it so
 --     IsMarkedLog begins names h log p u i a
 --                     where there is a log, it is of setup p and identity i: its head u says both, or it was renewed so
 --     HasName has log path
 --                     where there is a log and a path, it has this path by the names that it has
 --     IsReady failed durable synced log a
 --                     where there is a log, it works, and what is durable in it is this, behind a sync
+--     StartAnswer     what a host answers to a start of a log: the bytes that it has read of the log's file, or none
+--                     where none is there, the list of what was known and of the log, and the log's head; or why there
+--                     is none
+--     MakesList p o known found list u
+--                     a start makes this list and this head of what was known and of what was found: of the bytes of a
+--                     file their join, and of no file what was known alone, where none must be there
+--     IsUnderName .. found
+--                     of a folder that tells its files, this is under the log's name: a file of these bytes, or none
+--     IsAnswer answers p o known r
+--                     the host has answered just this, with what it has found; and the list is made of that
 --     StartsUnder loads heads starts saves begins names h path log must_load g f p i a
 --                     under setup p this is accepted, where the files say f: what was loaded where there is no log;
 --                     else just what the host has answered to a start of the log over what was loaded, which goes on
---                     from that. The book is i: that of the snapshot, else that of the log, else one that was drawn.
---                     And each file says so
+--                     from that, and is made of it and of the bytes that were read of the log's file. The book is i:
+--                     that of the snapshot, else that of the log, else one that was drawn. And each file says so
 --     StartsFrom loads heads starts saves begins names h path log must_load g q i a
 --                     an engine of setup q, which is the given numbers g over those of the files, starts with this as
 --                     accepted: with what is so under the files' rows and columns, in no fewer of them
@@ -72,8 +85,10 @@ use Rattle.log_start.specs.declared.fault.StartFault.{StartFault}
 use Rattle.log_start.specs.declared.fault.StartFault.TheVariants as start
 use Rattle.socket_server.specs.declared.log_host.LogOrigin.{LogOrigin}
 use Rattle.log_start.specs.declared.owner.LogOwner.{LogOwner}
+use Rattle.log_disk.specs.declared.disk.LogDisk.{Ghosts as Device}
+use Rattle.log_start.specs.Starts.{AreOfFile, IsJoined as AreJoined}
 use Rattle.log_desk.specs.Standings.{IsNamed}
-use Rattle.session_pool.specs.Saves.{IsSaved, of_origin}
+use Rattle.session_pool.specs.Saves.{IsSaved, of_book, of_origin}
 use Rattle.socket_server.specs.Ends.{GoesOn}
 use Rattle.socket_server.specs.Faults.{IsMet}
 use Rattle.socket_server.specs.Growth.{IsGrown, IsHeadMisfit, IsMisfit, IsPlan, IsRenewed}
@@ -182,33 +197,54 @@ abbrev pub SaysBoth : Option LogOrigin → Setting → Identity → Type 0
 SaysBoth None p i = Unit {0}
 SaysBoth (Some head) p i = (head.setup ≡ p) × (head.identity ≡ i)
 
+abbrev pub IsHeld : {H Z : Type 0} → (H → List ℕ → Origin → Setting → Accepted → Type 0) → H → Option (String Z) →
+    Option LogOrigin → Setting → Identity → Accepted → Type 0
+IsHeld saves h path u p i a = SaysBoth u p i ⊎ IsSaved (of_book saves i) h path p a
+
 abbrev pub IsMarkedLog : {H Z : Type 0} → (H → List ℕ → Setting → Identity → List Entry → Type 0) →
     (H → List ℕ → List Entry → Type 0) → H → Option (String Z) → Setting → Option LogOrigin → Identity → Accepted →
     Type 0
 IsMarkedLog begins names h log p u i a = SaysBoth u p i ⊎ IsRenewed begins names h log p i a
 
--- what is told of a log that was started, beside the log itself
-abbrev pub started_list : {L : Type 0} → Result (L × Listing × LogOrigin) StartFault →
-    Result (Listing × LogOrigin) StartFault
-started_list (Ok started) = Ok (started.1, started.2)
-started_list (Err fault) = Err fault
+abbrev pub StartAnswer : Type 0
+StartAnswer = Result (Option (List ℕ) × Listing × LogOrigin) StartFault
+
+-- of the bytes of a file, the log that they are and what was known are joined
+abbrev pub MakesList : Setting → LogOwner → Listing → Option (List ℕ) → Listing → LogOrigin → Type 0
+MakesList v owner known None list head =
+    (list ≡ known) × (owner.must_be_there ≡ false)
+    × (head.identity ≡ own owner.known unknown.identity owner.drawn) × (head.setup ≡ v)
+MakesList v owner known (Some bytes) list head = AreJoined v owner known bytes list head.identity head.setup
+
+abbrev pub IsUnderName : {D : Type 0} → Device D → Type 0 → (D → Type 0) → Option ℕ → Option (List ℕ) → Type 0
+IsUnderName d folder_tells stored named None = folder_tells → named ≡ None
+IsUnderName d folder_tells stored named (Some bytes) = AreOfFile d folder_tells stored bytes
+
+abbrev pub IsAnswer : {L : Type 0} → (StartAnswer → Type 0) → Setting → LogOwner → Listing →
+    Result (L × Listing × LogOrigin) StartFault → Type 0
+IsAnswer answers v owner known (Ok started) =
+    (found : Option (List ℕ)) × answers (Ok (found, started.1, started.2))
+    × MakesList v owner known found started.1 started.2
+IsAnswer answers v owner known (Err fault) = answers (Err fault)
 
 -- there is a log, and the host has answered this to a start of it over what this list tells
 abbrev pub HasStarted : {H Z : Type 0} →
-    (H → List ℕ → Setting → LogOwner → Listing → Result (Listing × LogOrigin) StartFault → Type 0) → H →
-    Option (String Z) → Setting → LogOwner → Listing → Result (Listing × LogOrigin) StartFault → Type 0
+    (H → List ℕ → Setting → LogOwner → Listing → StartAnswer → Type 0) → H →
+    Option (String Z) → Setting → LogOwner → Listing → StartAnswer → Type 0
 HasStarted starts h None v owner known answer = ⊥
 HasStarted starts h (Some log) v owner known answer = starts h (string_bytes log) v owner known answer
 
 -- this list is what is known where there is no log, and else what the host has answered to a start of it over that,
--- with the log's head
+-- with the log's head, made of that and of what was found
 abbrev pub IsJoined : {H Z : Type 0} →
-    (H → List ℕ → Setting → LogOwner → Listing → Result (Listing × LogOrigin) StartFault → Type 0) → H →
+    (H → List ℕ → Setting → LogOwner → Listing → StartAnswer → Type 0) → H →
     Option (String Z) → Setting → LogOwner → Listing → Listing → Option LogOrigin → Type 0
 IsJoined starts h None v owner known list u = (list ≡ known) × (u ≡ None)
 IsJoined starts h (Some log) v owner known list None = ⊥
 IsJoined starts h (Some log) v owner known list (Some head) =
-    GoesOn (accepted_in known) (accepted_in list) × HasStarted starts h (Some log) v owner known (Ok (list, head))
+    GoesOn (accepted_in known) (accepted_in list)
+    × (found : Option (List ℕ)) × HasStarted starts h (Some log) v owner known (Ok (found, list, head))
+    × MakesList v owner known found list head
 
 -- a step of the making of a log, or of its naming
 abbrev pub IsStepFault : StartFault → Type 0
@@ -226,7 +262,7 @@ HasName has (Some log) path = IsNamed path (has log)
 
 abbrev pub StartsUnder : {H Y Z : Type 0} → (H → List ℕ → ℕ → Result Saved FileFault → Type 0) →
     (H → List ℕ → Result (Option Setting) StartFault → Type 0) →
-    (H → List ℕ → Setting → LogOwner → Listing → Result (Listing × LogOrigin) StartFault → Type 0) →
+    (H → List ℕ → Setting → LogOwner → Listing → StartAnswer → Type 0) →
     (H → List ℕ → Origin → Setting → Accepted → Type 0) → (H → List ℕ → Setting → Identity → List Entry → Type 0) →
     (H → List ℕ → List Entry → Type 0) → H → Option (String Y) → Option (String Z) → Bool → GivenNumbers → Setting →
     Setting → Identity → Accepted → Type 0
@@ -240,7 +276,7 @@ StartsUnder loads heads starts saves begins names h path log must_load g f p i a
 
 abbrev pub StartsFrom : {H Y Z : Type 0} → (H → List ℕ → ℕ → Result Saved FileFault → Type 0) →
     (H → List ℕ → Result (Option Setting) StartFault → Type 0) →
-    (H → List ℕ → Setting → LogOwner → Listing → Result (Listing × LogOrigin) StartFault → Type 0) →
+    (H → List ℕ → Setting → LogOwner → Listing → StartAnswer → Type 0) →
     (H → List ℕ → Origin → Setting → Accepted → Type 0) → (H → List ℕ → Setting → Identity → List Entry → Type 0) →
     (H → List ℕ → List Entry → Type 0) → H → Option (String Y) → Option (String Z) → Bool → GivenNumbers → Setting →
     Identity → Accepted → Type 0
@@ -310,11 +346,12 @@ IsLockTold locks h log _ = Unit {0}
 -- a fault of the log is reported only where the host has answered it to a start of the log over what is known; or it is
 -- that of a step by which a log that was started is rotated
 abbrev pub IsStartTold : {H Z : Type 0} →
-    (H → List ℕ → Setting → LogOwner → Listing → Result (Listing × LogOrigin) StartFault → Type 0) →
+    (H → List ℕ → Setting → LogOwner → Listing → StartAnswer → Type 0) →
     H → Option (String Z) → Setting → LogOwner → Listing → ServerFault → Type 0
 IsStartTold starts h log v owner known (Log fault) =
     HasStarted starts h log v owner known (Err fault)
-    ⊎ ((list : Listing) × (u : LogOrigin) × HasStarted starts h log v owner known (Ok (list, u)) × IsStepFault fault)
+    ⊎ ((found : Option (List ℕ)) × (list : Listing) × (u : LogOrigin)
+    × HasStarted starts h log v owner known (Ok (found, list, u)) × IsStepFault fault)
 IsStartTold starts h log v owner known (NoLog missing snapshot) =
     HasStarted starts h log v owner known (Err start.NotFound) × (owner.must_be_there ≡ true)
 IsStartTold starts h log v owner known (LogDiffers misfit) = ⊥
@@ -323,7 +360,7 @@ IsStartTold starts h log v owner known _ = Unit {0}
 
 abbrev pub IsLogTold : {H Y Z : Type 0} → (H → List ℕ → ℕ → Result Saved FileFault → Type 0) →
     (H → List ℕ → Result Bool FileFault → Type 0) → (H → List ℕ → Result (Option Setting) StartFault → Type 0) →
-    (H → List ℕ → Setting → LogOwner → Listing → Result (Listing × LogOrigin) StartFault → Type 0) → H →
+    (H → List ℕ → Setting → LogOwner → Listing → StartAnswer → Type 0) → H →
     Option (String Y) → Option (String Z) → Bool → GivenNumbers → ServerFault → Type 0
 IsLogTold loads locks heads starts h path log must_load g fault =
     IsLockTold locks h log fault
@@ -334,7 +371,7 @@ IsLogTold loads locks heads starts h path log must_load g fault =
 
 pub record IsRefused {H Y Z : Type 0} (loads : H → List ℕ → ℕ → Result Saved FileFault → Type 0)
     (locks : H → List ℕ → Result Bool FileFault → Type 0) (heads : H → List ℕ → Result (Option Setting) StartFault → Type 0)
-    (starts : H → List ℕ → Setting → LogOwner → Listing → Result (Listing × LogOrigin) StartFault → Type 0) (h : H)
+    (starts : H → List ℕ → Setting → LogOwner → Listing → StartAnswer → Type 0) (h : H)
     (path : Option (String Y)) (log : Option (String Z)) (must_load : Bool) (g : GivenNumbers) (fault : ServerFault) :
     Type 0 where
   pub met : IsMet must_load fault

@@ -1,10 +1,14 @@
 //! Logs in files, for every runtime that has files.
-ghost use Rattle.std.specs.Prelude.{◌≡◌, ◌+◌, ◌<◌, ◌^◌, ⊤, true, false, IfOk};
+ghost use Rattle.std.specs.Prelude.{◌≡◌, ℕ, ◌+◌, ◌<◌, ◌≤◌, ◌^◌, ⊤, List, Option, length, true, false, IfOk, IfSome};
 ghost use Rattle.batch_store.specs.Accepted.{entries_in};
 ghost use Rattle.batch_store.specs.Books.{AreAccepted, accepted_in};
 ghost use Rattle.snap_file.specs.Snapshots.{HasBase};
+ghost use Rattle.log_blocks.specs.Blocks.{Block};
+ghost use Rattle.log_file.specs.Logs.{Log};
+ghost use Rattle.log_start.specs.Starts.{MayGoOn};
 ghost use Rattle.stored_log.specs.Kept.{WasSynced, is_failed};
 ghost use Rattle.socket_server.specs.Ends.{GoesOn};
+ghost use Rattle.socket_server.specs.Starts.{IsAnswer, IsUnderName, MakesList};
 
 use crate::log_host::{LogHost, LogOrigin};
 use batch_store::{BookList, Setup};
@@ -70,9 +74,9 @@ fn note_start(news: &LogNews, mark: Option<LogMark>, is_new: bool) {
     });
 }
 
-// Starts the log of a folder that doesn't tell its files, whose files don't tell what they hold, and tells where it
-// ends.
-fn start_untold<F: LogFolder>(
+// Starts the log of any folder, and reports where it ends. The list is made of what was found under the log's name, and
+// a folder that tells its files tells that: whoever doesn't look there, or doesn't read it, can't know it.
+fn start_in<F: LogFolder>(
     folder: &mut F,
     alloc: Global,
     setup: &Setup,
@@ -80,11 +84,18 @@ fn start_untold<F: LogFolder>(
     known: BookList,
     mark: &mut Option<LogMark>,
 ) -> Result<(StoredLog<F::Disk>, BookList, LogOrigin), StartFault>
-    requires untold { F.tells folder.old → ⊥ }
-    requires untelling { F.Disk.telling → ⊥ }
+    // The log that a file under the name has, and the next block, of which it may have any part.
+    ghost kept: { Log × Block }
+    requires left { F.tells folder.old → (disk : F.Disk) → F.stored folder.old disk → F.Disk.tells disk
+        × MayGoOn F.Disk.LogDisk disk kept.0 kept.1 }
     requires failures { F.failure_count folder.old + 1 < 2 ^ 64 }
     requires accepted { AreAccepted setup.now (accepted_in known) }
     requires based { HasBase setup.now known }
+    ensures list { IfOk result (λ r. (found : Option (List ℕ)) × IsUnderName F.Disk.LogDisk (F.tells folder.old)
+        (F.stored folder.old) (F.named folder.old) found × MakesList setup.now owner.now known found r.1 r.2) }
+    // The log begins within what is known, so that the next start over that finds no gap.
+    ensures within { IfOk result (λ r. IfSome r.0.in_use (λ log.
+        log.writer.first ≤ length (entries_in (accepted_in known)))) }
     ensures accepted { IfOk result (λ r. AreAccepted setup.now (accepted_in r.1)) }
     ensures based { IfOk result (λ r. HasBase setup.now r.1) }
     ensures later { IfOk result (λ r. GoesOn (accepted_in known) (accepted_in r.1)) }
@@ -110,6 +121,33 @@ fn start_untold<F: LogFolder>(
         Ok(log) => Ok((log, list, head)),
         Err(_) => Err(StartFault::Memory),
     }
+}
+
+// The same of a folder that doesn't tell its files.
+fn start_untold<F: LogFolder>(
+    folder: &mut F,
+    alloc: Global,
+    setup: &Setup,
+    owner: &LogOwner,
+    known: BookList,
+    mark: &mut Option<LogMark>,
+) -> Result<(StoredLog<F::Disk>, BookList, LogOrigin), StartFault>
+    requires untold { F.tells folder.old → ⊥ }
+    requires failures { F.failure_count folder.old + 1 < 2 ^ 64 }
+    requires accepted { AreAccepted setup.now (accepted_in known) }
+    requires based { HasBase setup.now known }
+    ensures answer { IsAnswer (λ answer. ⊤) setup.now owner.now known result }
+    ensures accepted { IfOk result (λ r. AreAccepted setup.now (accepted_in r.1)) }
+    ensures based { IfOk result (λ r. HasBase setup.now r.1) }
+    ensures later { IfOk result (λ r. GoesOn (accepted_in known) (accepted_in r.1)) }
+    ensures folded { IfOk result (λ r. r.1.folded ≡ known.folded) }
+    ensures works { IfOk result (λ r. is_failed F.Disk.in_doubt r.0.in_use ≡ false) }
+    ensures named { IfOk result (λ r. r.0.named ≡ true) }
+    ensures entries { IfOk result (λ r. r.0.entries ≡ entries_in (accepted_in r.1)) }
+    ensures synced { IfOk result (λ r. WasSynced F.Disk.telling F.Disk.tells F.Disk.written F.Disk.may_leave
+        (entries_in (accepted_in r.1))) }
+{
+    start_in(folder, alloc, setup, owner, known, mark)
 }
 
 // Whether a file is under a path.

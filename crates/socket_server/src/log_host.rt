@@ -8,7 +8,7 @@ ghost use Rattle.log_start.specs.declared.owner.LogOwner.{LogOwner};
 ghost use Rattle.socket_server.specs.declared.log_host.LogOrigin.{LogOrigin};
 ghost use Rattle.snap_file.specs.Snapshots.{HasBase};
 ghost use Rattle.socket_server.specs.Ends.{GoesOn};
-ghost use Rattle.socket_server.specs.Starts.{started_list};
+ghost use Rattle.socket_server.specs.Starts.{IsAnswer, StartAnswer};
 
 use batch_store::{BookList, Setup};
 use log_desk::Log;
@@ -30,10 +30,9 @@ pub struct LogOrigin {
 /// it for logs in files.
 pub trait LogHost<L: Log> {
     // What it has answered to a start of the log under this path, of this setup and this owner, over what is known: the
-    // list of both together and the head of the log, or why there is none. Of a real host's files no clause can speak,
-    // so there it is any.
-    ghost log_starts: { Self → List ℕ → Setting → LogOwner → Listing → Result (Listing × LogOrigin) StartFault →
-        Type 0 };
+    // bytes that it has read of the log's file, or none where none is there, the list of both together and the head of
+    // the log; or why there is none. Of a real host's files no clause can speak, so there it is any.
+    ghost log_starts: { Self → List ℕ → Setting → LogOwner → Listing → StartAnswer → Type 0 };
 
     // What it has answered to a look at the log under this path: the setup that its head says, or that there is none.
     ghost log_heads: { Self → List ℕ → Result (Option Setting) StartFault → Type 0 };
@@ -67,7 +66,10 @@ pub trait LogHost<L: Log> {
     ) -> Result<(L, BookList, LogOrigin), StartFault>
         requires accepted { AreAccepted setup.now (accepted_in known) }
         requires based { HasBase setup.now known }
-        ensures answer { log_starts self.now path.now setup.now owner.now known (started_list result) }
+        // The list is that of what is known and of the log that was read; of what is known alone only where no log is
+        // there, and none must be.
+        ensures answer { IsAnswer (log_starts self.now path.now setup.now owner.now known) setup.now owner.now known
+            result }
         ensures accepted { IfOk result (λ r. AreAccepted setup.now (accepted_in r.1)) }
         ensures based { IfOk result (λ r. HasBase setup.now r.1) }
         ensures later { IfOk result (λ r. GoesOn (accepted_in known) (accepted_in r.1)) }

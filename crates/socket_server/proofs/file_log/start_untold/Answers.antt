@@ -1,17 +1,11 @@
-use Rattle.std.proofs.Common.{[], ◌∙◌, sym, ap, append-nil}
-use Rattle.hyper_matrix.proofs.CountLaws.{ewise_add-empty}
-use Rattle.batch_store.specs.Books.{accepted_in}
+use Rattle.socket_server.specs.Starts.{IsUnderName}
+use Rattle.socket_server.proofs.AnswerLaws.{start_of}
 use Rattle.socket_server.proofs.file_log.start_untold.Goals as goal
 
--- the log's batches stand behind the known ones, and nothing was folded
-pub returns-in-Ok-of_start-clause-later : goal.returns-in-Ok-of_start-clause-later
-returns-in-Ok-of_start-clause-later g c =
-    let told = c.in-Ok.ensures in
-    record {
-      entries = told.begins;
-      past = record {
-        since = [];
-        base = ap (λ m. m.counts) told.base.0 ∙ sym (ewise_add-empty (accepted_in c.args.known).base);
-        folded = told.base.1 ∙ sym (append-nil c.args.known.folded);
-      };
-    }
+pub returns-clause-answer : goal.returns-clause-answer
+returns-clause-answer g c =
+    let folder = c.args.folder.now in
+    let f = g.F.LogFolder in
+    start_of c.args.setup.now c.args.owner.now c.args.known
+    (IsUnderName g.F.Disk.LogDisk (f.tells folder) (f.stored folder) (f.named folder)) c.start_in.result
+    c.start_in.ensures.list

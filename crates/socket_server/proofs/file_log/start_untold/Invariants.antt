@@ -3,5 +3,5 @@ use Rattle.open_log.specs.Rotations.{begun}
 use Rattle.socket_server.proofs.file_log.start_untold.Given as goal
 
 -- the folder doesn't tell what it holds, so nothing is asked of these
-abbrev pub ghost-start_log : goal.ghost-start_log
-ghost-start_log g a = (begun [] 0, [])
+abbrev pub ghost-start_in : goal.ghost-start_in
+ghost-start_in g a = (begun [] 0, [])
