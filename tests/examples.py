@@ -140,7 +140,10 @@ def kubernetes():
 
 # systemd.
 
-UNITS = ("hhm@.service", "hhm-hours.service", "hhm-hours.timer")
+UNITS = {
+    "systemd": ("hhm@.service", "hhm-hours.service", "hhm-hours.timer"),
+    "windows": ("hhm-windows.service", "hhm-windows.timer"),
+}
 
 
 def settings_of(unit):
@@ -165,11 +168,12 @@ def systemd():
         print("not tried: the units by systemd: there is no systemd-analyze")
         return
     places = {"/usr/local/bin/hhm-run": f"{TOP}/tools/hhm-run",
-              "/usr/local/lib/hhm/hours.sh": f"{TOP}/examples/systemd/hours.sh"}
+              "/usr/local/lib/hhm/hours.sh": f"{TOP}/examples/systemd/hours.sh",
+              "/usr/local/lib/hhm/windows.sh": f"{TOP}/examples/windows/windows.sh"}
     folder = os.path.join(server.FOLDER, "units")
     os.mkdir(folder)
-    for name in UNITS:
-        text = text_of("systemd", name)
+    for where, name in [(where, name) for where, names in UNITS.items() for name in names]:
+        text = text_of(where, name)
         for old, new in places.items():
             text = text.replace(old, new)
         with open(os.path.join(folder, name.replace("@", "@2026112718")), "w") as file:

@@ -1,6 +1,6 @@
 #!/usr/bin/env python3
 """Asks the built program about snapshots: which rows and columns lead, what stands in a range, how many have how many
-entries. Compares what it writes with a plain model of the snapshot's sum.
+entries, and whether a batch is in it. Compares what it writes with a plain model of the snapshot's sum.
 
     python3 tests/questions.py PATH-TO-HHM [--seed N] [--rounds N]
 
@@ -206,6 +206,58 @@ def rounds(program, file, seed, count):
         asked.append((["list", *words], listed(cells, dims, *spans)))
         for words, output in asked:
             yield f"round {number}: {' '.join(words)}", run(program, Case("", [*words, file.path], output=output))
+        for index, (entry, (client, pair, _)) in enumerate(zip(map(entry_of, batches), batches)):
+            line = "index %d cells %d total %d\n" % (index, *entry[2:])
+            case = Case("", ["has", file.path, str(client), str(pair)], output=line)
+            yield f"round {number}: has {client} {pair}", run(program, case)
+
+
+def entry_of(batch):
+    """What a folded batch leaves beside the base."""
+    client, number, cells = batch
+    return client, number, len(cells), sum(count for _, _, count in cells)
+
+
+def held_of(batches, folded, dims, shards=2):
+    """A snapshot of these batches, the first of which are folded."""
+    past = [entry_of(batch) for batch in batches[:folded]], summed(batches[:folded])
+    total = sum(count for _, _, cells in batches for _, _, count in cells)
+    return snapshot(batches[folded:], total, *dims, (4, 60), shards, MOST, 1_000, past=past)
+
+
+def has(program, file):
+    """Batches that are there, folded and not, and some that aren't."""
+    batches = [(7, 1, [(0, 0, 5)]), (7, 3, [(0, 0, 1), (2, 1, 0)]), (MOST, 0, [(1, 1, 8)]), (0, MOST, [])]
+    lines = ["index 0 cells 1 total 5\n", "index 1 cells 2 total 1\n", "index 2 cells 1 total 8\n",
+             "index 3 cells 0 total 0\n"]  # fmt: skip
+    for folded in range(5):
+        file.hold(held_of(batches, folded, (3, 3)))
+        for (client, number, _), line in zip(batches, lines):
+            case = Case("", ["has", file.path, str(client), str(number)], output=line)
+            yield f"has {client} {number}, {folded} folded", run(program, case)
+        for client, number in [(7, 2), (1, 7), (3, 7), (7, 0), (0, 0), (MOST, MOST), (8, 1)]:
+            case = Case("", ["has", file.path, str(client), str(number)], output="none\n", status=1)
+            yield f"has no {client} {number}, {folded} folded", run(program, case)
+    yield "has, zeros", run(program, Case("", ["has", file.path, "007", "0001"], output=lines[0]))
+    for words in [["x", "1"], ["7", "y"], ["7", ""], ["", "1"], [str(MOST + 1), "1"], ["7", "1.0"]]:
+        case = Case("", ["has", file.path + ".none", *words], error="hhm: settings: BadNumber\n", status=2)
+        yield f"has {words}", run(program, case)
+    for words in [["7"], [], ["7", "1", "2"], ["--log", "x", "7", "1"]]:
+        yield f"has {words}", run(program, Case("", ["has", file.path, *words], error=SOME, status=2))
+    for path, fault in [(file.path + ".none", "file: NotFound"), ("/dev/null", "file: OpenFailed")]:
+        yield f"has: {fault}", run(program, Case("", ["has", path, "7", "1"], error=f"hhm: {fault}\n", status=4))
+    for number, kept in [("1", "index"), ("2", "none\n")]:
+        error = f"hhm: output failed after {len(kept)} bytes\n"
+        case = Case("", ["has", file.path, "7", number], output=kept, error=error, status=4)
+        if number == "2":
+            case = case._replace(output="none", error="hhm: output failed after 4 bytes\n")
+        with tempfile.TemporaryFile() as taken:
+            how = {"stdout": taken, "preexec_fn": lambda room=len(case.output): leave_room(room)}
+            yield f"has, room for {len(case.output)} bytes", run(program, case, **how)
+    for held, fault in NO_SNAPSHOTS:
+        file.hold(held)
+        case = Case("", ["has", file.path, "7", "1"], error=f"hhm: snapshot: {fault}\n", status=3)
+        yield f"has: {fault}, {len(held)} bytes", run(program, case)
 
 
 def main():
@@ -217,7 +269,7 @@ def main():
     passed = failed = 0
     with tempfile.TemporaryDirectory() as folder:
         file = File(folder)
-        cases = [tables(given.program, file), faults(given.program, file)]
+        cases = [tables(given.program, file), faults(given.program, file), has(given.program, file)]
         for name, wrong in [it for group in cases for it in group] + list(
             rounds(given.program, file, given.seed, given.rounds)
         ):

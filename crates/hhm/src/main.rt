@@ -1,8 +1,8 @@
 //! `hhm`: sums counted cells (row, column, count) into hypersparse matrices, exactly.
 //!
 //! The program reads the words of its command line, runs what they ask for over standard input and output, and says a
-//! fault in one line on standard error: `mm_sum` writes sums, `snap_report` tells of snapshots, `snap_query` asks them,
-//! `socket_server` serves.
+//! fault in one line on standard error: `mm_sum` writes sums, `snap_report` tells of snapshots, `snap_query` and
+//! `snap_roll` ask them, `socket_server` serves.
 #![tactic(auto)]
 
 ghost use Rattle.std.specs.Prelude.{IfOk};
@@ -31,7 +31,7 @@ use crate::given::numbers_of;
 use crate::memory::keep_freed_memory;
 use crate::numbers::read_list;
 use crate::path_host::PathHost;
-use crate::query::{range_of, side_of, top_query_of};
+use crate::query::{number_of, range_of, side_of, top_query_of};
 use crate::report::Fault;
 use crate::serve::{ServeOrder, order_of, status_of};
 use crate::streams::ClosedStreams;
@@ -51,6 +51,7 @@ use snap_report::{
     run_check_with_log, run_export, run_fold, run_fold_to, run_fold_with_log, run_fork,
     run_fork_with_log,
 };
+use snap_roll::run_has;
 use socket_server::{ServerFault, is_reserved};
 use std::alloc::AllocError;
 use std::io::IsTerminal;
@@ -130,6 +131,7 @@ fn run_matches(rt: &HostRuntime, matches: &ArgMatches) -> Result<Outcome, Fault>
             run_fork_word(rt, given)?;
             Ok(Outcome::Ended(ExitCode::SUCCESS))
         }
+        Some(("has", given)) => Ok(Outcome::Ended(run_has_word(rt, given)?)),
         Some((word, given)) => {
             run_word(rt, word, given)?;
             Ok(Outcome::Ended(ExitCode::SUCCESS))
@@ -149,6 +151,22 @@ fn run_word(rt: &HostRuntime, word: &str, given: &ArgMatches) -> Result<(), Faul
     };
     clear(&mut line);
     outcome
+}
+
+/// Says whether the snapshot under a path has the batch of a client with a number: with status 1 where it hasn't.
+fn run_has_word(rt: &HostRuntime, given: &ArgMatches) -> Result<ExitCode, Fault> {
+    let client = number_of(given, "client")?;
+    let number = number_of(given, "number")?;
+    let path = given.get_str("path").unwrap_or("");
+    let mut out = Counted::new(rt.stdout());
+    let mut line = progress_line(rt, rt.stderr().is_terminal(), Entries::Cells);
+    let mut file = NamedFile::new(rt, path, &mut line);
+    let outcome = run_has(rt.alloc(), &mut file, &mut out, client, number);
+    clear(&mut line);
+    match outcome? {
+        Some(_) => Ok(ExitCode::SUCCESS),
+        None => Ok(ExitCode::from(1)),
+    }
 }
 
 /// A line that says how far the reading has come, where it is to be shown.

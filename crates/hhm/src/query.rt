@@ -23,12 +23,17 @@ fn by_of(given: &ArgMatches) -> TopBy {
     }
 }
 
+/// The number that an argument is.
+pub fn number_of(given: &ArgMatches, name: &str) -> Result<u64, Fault> {
+    match read_number(given.get_str(name).unwrap_or("").as_bytes()) {
+        Some(number) => Ok(number),
+        None => Err(Fault::BadNumber),
+    }
+}
+
 /// What `top` is asked.
 pub fn top_query_of(given: &ArgMatches) -> Result<TopQuery, Fault> {
-    let word = given.get_str("most").unwrap_or("");
-    let Some(most) = read_number(word.as_bytes()) else {
-        return Err(Fault::BadNumber);
-    };
+    let most = number_of(given, "most")?;
     Ok(TopQuery {
         side: side_of(given),
         by: by_of(given),

@@ -1,4 +1,4 @@
-//! The words that ask a snapshot, `top`, `list` and `degrees`, as `clap` reads them.
+//! The words that ask a snapshot, `top`, `list`, `degrees` and `has`, as `clap` reads them.
 
 use clap::builder::ValueParser;
 use clap::{Arg, ArgAction, Command};
@@ -57,6 +57,27 @@ With --cols the lines are of columns.
 
 A fault is one line on standard error:
 
+  hhm: file: NotFound, OpenFailed  status 4
+  hhm: snapshot: KIND              status 3 (KIND Read: 4)
+  hhm: output failed after N bytes status 4
+  hhm: memory                      status 5";
+
+const HAS_ABOUT: &str = "Say whether a snapshot has the batch of a client with a number";
+
+const HAS_HELP: &str = "\
+Reads the snapshot in the file FILE to its end, and writes one line to standard
+output: of the batch that CLIENT sent under NUMBER
+
+  index I cells C total T
+
+where I counts from 0 over all batches, C is how many cells it has, and T their
+total; or, with status 1, where there is no such batch
+
+  none
+
+Folded batches are found too. A fault is one line on standard error:
+
+  hhm: settings: BadNumber         status 2
   hhm: file: NotFound, OpenFailed  status 4
   hhm: snapshot: KIND              status 3 (KIND Read: 4)
   hhm: output failed after N bytes status 4
@@ -127,4 +148,27 @@ pub fn list_command<'a>(alloc: Global) -> Result<Command<'a>, AllocError> {
 pub fn degrees_command<'a>(alloc: Global) -> Result<Command<'a>, AllocError> {
     let degrees = word(alloc, "degrees", DEGREES_ABOUT, DEGREES_HELP)?;
     with_side(alloc, degrees)
+}
+
+// A number that has to be given, as the argument of this name.
+fn number<'a>(alloc: Global, name: &'a str, word: &'a str, help: &'a str) -> Arg<'a> {
+    Arg::new(alloc, name)
+        .value_name(word)
+        .required(true)
+        .help(help)
+}
+
+/// The word `has`.
+pub fn has_command<'a>(alloc: Global) -> Result<Command<'a>, AllocError> {
+    let path = Arg::new(alloc, "path")
+        .value_name("FILE")
+        .required(true)
+        .value_parser(ValueParser::NonEmptyString)
+        .help("The snapshot's file");
+    Command::new(alloc, "has")
+        .about(HAS_ABOUT)
+        .after_help(HAS_HELP)
+        .arg(path)?
+        .arg(number(alloc, "client", "CLIENT", "Who sent the batch"))?
+        .arg(number(alloc, "number", "NUMBER", "The client's number of it"))
 }
