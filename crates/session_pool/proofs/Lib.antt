@@ -1,3 +1,4 @@
 pub mod GivenLaws
 pub mod PlaceLaws
 pub mod DurableLaws
+pub mod HeldLaws

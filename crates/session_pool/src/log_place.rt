@@ -1,11 +1,13 @@
 //! What a save asks of the folder of a log.
-ghost use Rattle.std.specs.Prelude.{◌≡◌, ◌⊎◌, ℕ, List, true, false, IfOk, OnOk, OnErr};
+ghost use Rattle.std.specs.Prelude.{◌≡◌, ◌⊎◌, ℕ, List, [], true, false, IfOk, OnOk, OnErr, IsSomeAnd};
 ghost use Rattle.batch_store.specs.declared.verdict.Entry.{Entry};
 ghost use Rattle.batch_store.specs.Accepted.{entries_in};
 ghost use Rattle.batch_store.specs.Books.{AreAccepted, accepted_in};
 ghost use Rattle.batch_store.specs.Setups.{Setting};
 ghost use Rattle.snap_file.specs.declared.origin.Identity.{Identity};
+ghost use Rattle.session_pool.specs.Saves.{of_book};
 
+use crate::disk::Disk;
 use batch_store::{BookList, Setup};
 use log_desk::Log;
 use log_folder::LogNews;
@@ -18,7 +20,7 @@ use std::sync::Arc;
 ///
 /// `path` is that of the log, and `snapshot` that of the snapshot beside which it stands, if there is one. Why a call on
 /// the new log or its folder fails is noted in `news`, where there are some.
-pub trait LogPlace<L: Log> {
+pub trait LogPlace<L: Log>: Disk {
     // What it has answered to be named: under this path, a log of these entries. Of a real folder's files no clause can
     // speak, so there it is any; but since callers are proved for every place, a log that they tell to have taken the
     // place of another was named by it.
@@ -29,7 +31,8 @@ pub trait LogPlace<L: Log> {
     ghost begins: { Self → List ℕ → Setting → Identity → List Entry → Type 0 };
 
     /// Makes a new log of this setup and this identity beside the one under `path`, without blocks, after what the list
-    /// has. The one in use isn't touched.
+    /// has. The one in use isn't touched. Of the list's batches the new log has none: whoever begins it has saved them
+    /// under `snapshot`, as of the same book, or the list has none.
     ///
     /// # Errors
     ///
@@ -46,6 +49,8 @@ pub trait LogPlace<L: Log> {
         news: Option<&Arc<LogNews>>,
     ) -> Result<L, SaveFault>
         requires accepted { AreAccepted setup.now (accepted_in list.now) }
+        requires held { (entries_in (accepted_in list.now) ≡ []) ⊎ IsSomeAnd snapshot (λ saved.
+            of_book Self.saves identity self.now saved.now setup.now (accepted_in list.now)) }
         ensures working { IfOk result (λ new. L.failed new ≡ false) }
         ensures durable { IfOk result (λ new. L.durable new ≡ entries_in (accepted_in list.now)) }
         ensures synced { IfOk result (λ new. L.was_synced (L.durable new)) }

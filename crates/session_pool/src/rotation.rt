@@ -55,6 +55,8 @@ fn begin<N: Named, L: Log, R: LogPlace<L>>(
     shown: Version<N>,
 ) -> Result<NewLog<N, L>, SaveFault>
     requires accepted { AreAccepted setup.now (accepted_in list.now) }
+    requires saved { IsSomeAnd names.snapshot (λ path.
+        R.saves rt.now path.now names.origin setup.now (accepted_in list.now)) }
     requires shown { shown ≡ entries_in (accepted_in list.now) }
     ensures works { IfOk result (λ new. new.failed ≡ false) }
     ensures begun { OnOk result (R.begins rt.now names.entry.log.now setup.now names.entry.origin.identity

@@ -24,6 +24,9 @@
 --     IsMarked saves h path f p o x a
 --                     where there is a path, the snapshot there is of setup p and origin x: it was loaded so, or this
 --                     was saved so
+--     IsHeld saves h path u p i a
+--                     the head of the log says this setup and this identity; or, where there is a path, this was saved
+--                     under it so
 --     IsMarkedLog begins names h log p u i a
 --                     where there is a log, it is of setup p and identity i: its head u says both, or it was renewed so
 --     HasName has log path
@@ -85,7 +88,7 @@ use Rattle.log_start.specs.declared.owner.LogOwner.{LogOwner}
 use Rattle.log_disk.specs.declared.disk.LogDisk.{Ghosts as Device}
 use Rattle.log_start.specs.Starts.{AreOfFile, IsJoined as AreJoined}
 use Rattle.log_desk.specs.Standings.{IsNamed}
-use Rattle.session_pool.specs.Saves.{IsSaved, of_origin}
+use Rattle.session_pool.specs.Saves.{IsSaved, of_book, of_origin}
 use Rattle.socket_server.specs.Ends.{GoesOn}
 use Rattle.socket_server.specs.Faults.{IsMet}
 use Rattle.socket_server.specs.Growth.{IsGrown, IsHeadMisfit, IsMisfit, IsPlan, IsRenewed}
@@ -193,6 +196,10 @@ IsMarked saves h path f p o x a = ((o ≡ Some x) × (f ≡ p)) ⊎ IsSaved (of_
 abbrev pub SaysBoth : Option LogOrigin → Setting → Identity → Type 0
 SaysBoth None p i = Unit {0}
 SaysBoth (Some head) p i = (head.setup ≡ p) × (head.identity ≡ i)
+
+abbrev pub IsHeld : {H Z : Type 0} → (H → List ℕ → Origin → Setting → Accepted → Type 0) → H → Option (String Z) →
+    Option LogOrigin → Setting → Identity → Accepted → Type 0
+IsHeld saves h path u p i a = SaysBoth u p i ⊎ IsSaved (of_book saves i) h path p a
 
 abbrev pub IsMarkedLog : {H Z : Type 0} → (H → List ℕ → Setting → Identity → List Entry → Type 0) →
     (H → List ℕ → List Entry → Type 0) → H → Option (String Z) → Setting → Option LogOrigin → Identity → Accepted →

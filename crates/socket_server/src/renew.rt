@@ -1,9 +1,11 @@
 //! Rotates the log at a start, so that its head says whose it is, and the server's setup. No head is ever overwritten.
-ghost use Rattle.std.specs.Prelude.{◌≡◌, ◌<◌, ◌≤◌, ◌++◌, [], List, None, length, IfOk, OnOk, false};
+ghost use Rattle.std.specs.Prelude.{◌≡◌, ◌⊎◌, ◌<◌, ◌≤◌, ◌++◌, [], List, None, length, IfOk, OnOk, IfSome, IsSomeAnd};
+ghost use Rattle.std.specs.Prelude.{false};
 ghost use Rattle.batch_store.specs.Accepted.{entries_in};
 ghost use Rattle.batch_store.specs.Batches.{entries_of, values};
 ghost use Rattle.batch_store.specs.Books.{AreAccepted, accepted_in};
 ghost use Rattle.batch_store.specs.declared.verdict.Entry.{Entry};
+ghost use Rattle.session_pool.specs.Saves.{of_book};
 
 use crate::load::empty_list;
 use batch_store::{Batch, BookList, Setup};
@@ -92,6 +94,8 @@ impl<'a> Renewal<'a> {
         rest: &[Arc<Batch>],
     ) -> Result<L, SaveFault>
         requires accepted { AreAccepted self.now.setup.now (accepted_in front.now) }
+        requires held { (entries_in (accepted_in front.now) ≡ []) ⊎ IsSomeAnd self.now.snapshot (λ saved.
+            of_book R.saves self.now.identity rt.now saved.now self.now.setup.now (accepted_in front.now)) }
         ensures works { IfOk result (λ log. L.failed log ≡ false) }
         ensures durable { IfOk result (λ log.
             L.durable log ≡ entries_in (accepted_in front.now) ++ entries_of (values rest.now)) }
@@ -120,6 +124,8 @@ impl<'a> Renewal<'a> {
     // Begins a log of all that a list has: where a snapshot has that too, it has no blocks.
     fn begin_whole<L: Log, R: LogPlace<L>>(&self, rt: &R, list: &BookList) -> Result<L, SaveFault>
         requires accepted { AreAccepted self.now.setup.now (accepted_in list.now) }
+        requires held { IfSome self.now.snapshot (λ saved.
+            of_book R.saves self.now.identity rt.now saved.now self.now.setup.now (accepted_in list.now)) }
         requires unfolded { self.now.snapshot ≡ None → list.now.folded ≡ [] }
         ensures works { IfOk result (λ log. L.failed log ≡ false) }
         ensures durable { IfOk result (λ log. L.durable log ≡ entries_in (accepted_in list.now)) }
@@ -138,7 +144,7 @@ impl<'a> Renewal<'a> {
     }
 
     /// Makes a new log of all that the list has, and gives it the name of the one in use, which nobody else uses. Where
-    /// there is a snapshot, that must have all of the list already: the new log begins after it.
+    /// there is a snapshot, all of the list was saved there before: the new log begins after it.
     ///
     /// # Errors
     ///
@@ -150,6 +156,8 @@ impl<'a> Renewal<'a> {
         in_use: L,
     ) -> Result<L, SaveFault>
         requires accepted { AreAccepted self.now.setup.now (accepted_in list.now) }
+        requires held { IfSome self.now.snapshot (λ saved.
+            of_book R.saves self.now.identity rt.now saved.now self.now.setup.now (accepted_in list.now)) }
         requires unfolded { self.now.snapshot ≡ None → list.now.folded ≡ [] }
         ensures works { IfOk result (λ log. L.failed log ≡ false) }
         ensures durable { IfOk result (λ log. L.durable log ≡ entries_in (accepted_in list.now)) }

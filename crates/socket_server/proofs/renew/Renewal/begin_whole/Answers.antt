@@ -1,8 +1,9 @@
-use Rattle.std.proofs.Common.{sym, ap, ◌∙◌}
+use Rattle.std.proofs.Common.{inl, inr, sym, ap, ◌∙◌}
 use Rattle.std.proofs.lemmas.Result.{IfOk-weaker}
-use Rattle.batch_store.specs.Books.{Listing}
+use Rattle.batch_store.specs.Accepted.{entries_in}
+use Rattle.batch_store.specs.Books.{Listing, accepted_in}
 use Rattle.batch_store.specs.Batches.{values}
-use Rattle.socket_server.proofs.RenewLaws.{all_appended, begun_with, none_where}
+use Rattle.socket_server.proofs.RenewLaws.{all_appended, begun_with, none_where, some_held}
 use Rattle.socket_server.proofs.renew.Renewal.begin_whole.Goals as goal
 
 -- nothing is folded, so all is appended
@@ -19,3 +20,12 @@ returns-clause-begun g c =
     let r = c.args.self.now in
     begun_with c.begin-2.result (g.R.LogPlace.begins c.args.rt.now r.log.now r.setup.now r.identity) _
     c.begin-2.ensures.begun
+
+-- the snapshot has the list
+pub begin-requires-clause-held : goal.begin-requires-clause-held
+begin-requires-clause-held g c =
+    inr (some_held c.args.self.now.snapshot _ (sym c.is_some.ensures ∙ c.if-is_some.true) c.requires.held)
+
+-- nothing is before the log
+pub begin-2-requires-clause-held : goal.begin-2-requires-clause-held
+begin-2-requires-clause-held g c = inl (ap (λ (l : Listing). entries_in (accepted_in l)) c.in-Ok.ensures.list)
