@@ -1,6 +1,7 @@
 //! Logs in files, for every runtime that has files.
 ghost use Rattle.std.specs.Prelude.{⊤};
 
+use crate::disk::Disk;
 use crate::file_log::FileLog;
 use crate::log_place::LogPlace;
 use batch_store::{BookList, Setup};
@@ -100,8 +101,9 @@ impl<R: Files<File = File>> LogPlace<FileLog> for R {
 
     ghost begins = { λ place path setup identity entries. ⊤ };
 
-    fn begin_log(
+    fn begin_log<D: Disk>(
         &self,
+        _disk: &D,
         alloc: Global,
         path: &str,
         snapshot: Option<&str>,

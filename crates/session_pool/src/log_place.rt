@@ -20,7 +20,7 @@ use std::sync::Arc;
 ///
 /// `path` is that of the log, and `snapshot` that of the snapshot beside which it stands, if there is one. Why a call on
 /// the new log or its folder fails is noted in `news`, where there are some.
-pub trait LogPlace<L: Log>: Disk {
+pub trait LogPlace<L: Log> {
     // What it has answered to be named: under this path, a log of these entries. Of a real folder's files no clause can
     // speak, so there it is any; but since callers are proved for every place, a log that they tell to have taken the
     // place of another was named by it.
@@ -32,14 +32,15 @@ pub trait LogPlace<L: Log>: Disk {
 
     /// Makes a new log of this setup and this identity beside the one under `path`, without blocks, after what the list
     /// has. The one in use isn't touched. Of the list's batches the new log has none: whoever begins it has saved them
-    /// under `snapshot`, as of the same book, or the list has none.
+    /// under `snapshot` of this disk, as of the same book, or the list has none.
     ///
     /// # Errors
     ///
     /// `Memory`, `Create`, `Write` or `Sync` where that step failed; `Create` too where the log of another book is under
     /// `path`. The new file is removed then, where that can be done.
-    fn begin_log(
+    fn begin_log<D: Disk>(
         &self,
+        disk: &D,
         alloc: Global,
         path: &str,
         snapshot: Option<&str>,
@@ -50,7 +51,7 @@ pub trait LogPlace<L: Log>: Disk {
     ) -> Result<L, SaveFault>
         requires accepted { AreAccepted setup.now (accepted_in list.now) }
         requires held { (entries_in (accepted_in list.now) ≡ []) ⊎ IsSomeAnd snapshot (λ saved.
-            of_book Self.saves identity self.now saved.now setup.now (accepted_in list.now)) }
+            of_book D.saves identity disk.now saved.now setup.now (accepted_in list.now)) }
         ensures working { IfOk result (λ new. L.failed new ≡ false) }
         ensures durable { IfOk result (λ new. L.durable new ≡ entries_in (accepted_in list.now)) }
         ensures synced { IfOk result (λ new. L.was_synced (L.durable new)) }

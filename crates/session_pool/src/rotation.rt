@@ -46,7 +46,7 @@ fn no_room(fault: RoomFault) -> DeskFault {
 }
 
 // Begins a new log after a list, whose entries these are.
-fn begin<N: Named, L: Log, R: LogPlace<L>>(
+fn begin<N: Named, L: Log, R: Disk + LogPlace<L>>(
     rt: &R,
     alloc: Global,
     names: LogNames<'_>,
@@ -66,6 +66,7 @@ fn begin<N: Named, L: Log, R: LogPlace<L>>(
         return Err(SaveFault::Memory);
     };
     match rt.begin_log(
+        rt,
         alloc,
         names.log,
         names.snapshot,
@@ -260,6 +261,7 @@ pub(crate) fn rotate_last<L: Log, R: Disk + LogPlace<L>>(
         (entries_in (accepted_in list.now))) }
 {
     match rt.begin_log(
+        rt,
         alloc,
         names.log,
         names.snapshot,

@@ -12,7 +12,7 @@ use batch_store::{Batch, BookList, Setup};
 use byte_io::WriteFault;
 use log_desk::{Log, RoomFault};
 use log_folder::LogNews;
-use session_pool::LogPlace;
+use session_pool::{Disk, LogPlace};
 use snap_file::{Identity, SaveFault};
 use std::alloc::Global;
 use std::sync::Arc;
@@ -87,7 +87,7 @@ fn append_all<L: Log>(log: &mut L, batches: &[Arc<Batch>]) -> Result<(), SaveFau
 
 impl<'a> Renewal<'a> {
     // Begins a log after what a list has, and appends batches to it.
-    fn begin<L: Log, R: LogPlace<L>>(
+    fn begin<L: Log, R: Disk + LogPlace<L>>(
         &self,
         rt: &R,
         front: &BookList,
@@ -104,6 +104,7 @@ impl<'a> Renewal<'a> {
             (entries_in (accepted_in front.now))) }
     {
         let mut log = rt.begin_log(
+            rt,
             self.alloc,
             self.log,
             self.snapshot,
@@ -122,7 +123,11 @@ impl<'a> Renewal<'a> {
     }
 
     // Begins a log of all that a list has: where a snapshot has that too, it has no blocks.
-    fn begin_whole<L: Log, R: LogPlace<L>>(&self, rt: &R, list: &BookList) -> Result<L, SaveFault>
+    fn begin_whole<L: Log, R: Disk + LogPlace<L>>(
+        &self,
+        rt: &R,
+        list: &BookList,
+    ) -> Result<L, SaveFault>
         requires accepted { AreAccepted self.now.setup.now (accepted_in list.now) }
         requires held { IfSome self.now.snapshot (λ saved.
             of_book R.saves self.now.identity rt.now saved.now self.now.setup.now (accepted_in list.now)) }
@@ -149,7 +154,7 @@ impl<'a> Renewal<'a> {
     /// # Errors
     ///
     /// As `LogPlace` says. What is under the names is started from as before.
-    pub fn renew<L: Log, R: LogPlace<L>>(
+    pub fn renew<L: Log, R: Disk + LogPlace<L>>(
         &self,
         rt: &R,
         list: &BookList,

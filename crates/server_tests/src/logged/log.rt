@@ -4,7 +4,7 @@ ghost use Rattle.std.specs.Prelude.{⊤};
 use batch_store::{Batch, BookList, Entry, Setup};
 use log_desk::{FailAt, Log, LogFailed, MemoryLog, NoPause, RoomFault};
 use log_folder::LogNews;
-use session_pool::LogPlace;
+use session_pool::{Disk, LogPlace};
 use snap_file::{Identity, SaveFault};
 use std::alloc::Global;
 use std::sync::Arc;
@@ -89,8 +89,9 @@ impl LogPlace<TestLog> for HostRuntime {
 
     ghost begins = { λ place path setup identity entries. ⊤ };
 
-    fn begin_log(
+    fn begin_log<D: Disk>(
         &self,
+        _disk: &D,
         alloc: Global,
         path: &str,
         _snapshot: Option<&str>,
