@@ -1,7 +1,6 @@
-use Rattle.std.proofs.Common.{inl, inr, sym, ap, ◌∙◌}
+use Rattle.std.proofs.Common.{inr, sym, ap, ◌∙◌}
 use Rattle.std.proofs.lemmas.Result.{IfOk-weaker}
-use Rattle.batch_store.specs.Accepted.{entries_in}
-use Rattle.batch_store.specs.Books.{Listing, accepted_in}
+use Rattle.batch_store.specs.Books.{Listing}
 use Rattle.batch_store.specs.Batches.{values}
 use Rattle.socket_server.proofs.RenewLaws.{all_appended, begun_with, none_where, some_held}
 use Rattle.socket_server.proofs.renew.Renewal.begin_whole.Goals as goal
@@ -25,7 +24,3 @@ returns-clause-begun g c =
 pub begin-requires-clause-held : goal.begin-requires-clause-held
 begin-requires-clause-held g c =
     inr (some_held c.args.self.now.snapshot _ (sym c.is_some.ensures ∙ c.if-is_some.true) c.requires.held)
-
--- nothing is before the log
-pub begin-2-requires-clause-held : goal.begin-2-requires-clause-held
-begin-2-requires-clause-held g c = inl (ap (λ (l : Listing). entries_in (accepted_in l)) c.in-Ok.ensures.list)
