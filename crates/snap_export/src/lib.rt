@@ -1,6 +1,7 @@
 //! What is made of whole snapshots for those who read on: `run_export_of` writes the canonical text of the sum of
 //! several, and `run_compact` saves it in a folder as a matrix without empty rows and columns, beside the numbers of
-//! those that it has. `run_export_minus` writes what a snapshot has more than an earlier one of the same book.
+//! those that it has. `run_export_minus` writes what a snapshot has more than an earlier one of the same book, and
+//! `cells_of_all` gives the cells of the sum of several.
 //!
 //! `specs/Several` says what the sum is, `specs/Compact` how rows and columns are numbered again, and `specs/Minus` when
 //! one snapshot goes on from another. A fault in a file, a total
@@ -22,7 +23,9 @@ mod new_file;
 mod relabel;
 mod saving;
 mod several;
+mod summed;
 
+pub use begun::count_of;
 pub use compact::run_compact;
 pub use fault::ExportFault;
 pub use laws::{compact_matrix_reads_back, several_snapshots_add_up};
@@ -31,3 +34,4 @@ pub use minus_fault::DifferenceFault;
 pub use minus_laws::batches_between_are_the_difference;
 pub use named_folder::NamedFolder;
 pub use several::{SnapshotFiles, run_export_of};
+pub use summed::{SummedCells, cells_of_all};
