@@ -43,7 +43,7 @@ use clap::error::ErrorKind;
 use clap::{ArgMatches, Error};
 use mm_sum::{run_sum, run_sum_of};
 use progress::{Entries, ProgressLine, Watched};
-use snap_export::{NamedFolder, run_compact, run_export_minus, run_export_of};
+use snap_export::{NamedFolder, run_compact, run_compact_minus, run_export_minus, run_export_of};
 use snap_file::{FileFault, Identity, LockedFile, NamedFile, PathLock, lock, lock_existing};
 use snap_query::{
     run_check_of, run_degrees, run_degrees_of, run_list, run_list_of, run_top, run_top_of,
@@ -276,7 +276,7 @@ fn run_export_word(rt: &HostRuntime, given: &ArgMatches) -> ExitCode {
         (None, _) => end_export(rt, names, export_named(rt, given, names)),
         (Some(old), [new]) => {
             let both = [*new, old];
-            end_export(rt, &both, export_minus(rt, &both))
+            end_export(rt, &both, export_minus(rt, given, &both))
         }
         (Some(_), _) => {
             let _ = eprintln!(rt; "error: the argument '--minus <OLD>' takes one PATH beside it");
@@ -308,14 +308,39 @@ fn export_named(rt: &HostRuntime, given: &ArgMatches, names: &[&str]) -> Result<
     outcome
 }
 
-/// Writes what the snapshot in the first file has more than the one in the second to standard output. How far the
-/// reading has come is said on a terminal.
-fn export_minus(rt: &HostRuntime, names: &[&str]) -> Result<(), Fault> {
-    let mut out = Counted::new(rt.stdout());
+/// Exports what the snapshot in the first file has more than the one in the second. How far the reading has come is said
+/// on a terminal.
+fn export_minus(rt: &HostRuntime, given: &ArgMatches, names: &[&str]) -> Result<(), Fault> {
     let mut line = progress_line(rt, rt.stderr().is_terminal(), Entries::Cells);
-    let mut files = NamedSnapshots::new(rt, names, &mut line);
-    let outcome = run_export_minus(rt.alloc(), &mut files, &mut out);
+    let outcome = match given.get_str("compact") {
+        Some(folder) => save_compact_minus(rt, names, folder, &mut line),
+        None => write_minus(rt, names, &mut line),
+    };
     clear(&mut line);
+    outcome
+}
+
+/// Writes the difference to standard output.
+fn write_minus(rt: &HostRuntime, names: &[&str], line: &mut Shown<'_>) -> Result<(), Fault> {
+    let mut out = Counted::new(rt.stdout());
+    let mut files = NamedSnapshots::new(rt, names, line);
+    run_export_minus(rt.alloc(), &mut files, &mut out)?;
+    Ok(())
+}
+
+/// Saves the difference in a folder, without empty rows and columns.
+fn save_compact_minus(
+    rt: &HostRuntime,
+    names: &[&str],
+    path: &str,
+    line: &mut Shown<'_>,
+) -> Result<(), Fault> {
+    let mut files = NamedSnapshots::new(rt, names, line);
+    let mut folder = NamedFolder::new(rt, rt.alloc(), path)?;
+    let outcome = run_compact_minus(rt.alloc(), &mut files, &mut folder);
+    if outcome.is_err() {
+        folder.remove_unfinished();
+    }
     outcome?;
     Ok(())
 }

@@ -20,12 +20,14 @@ ghost use Rattle.snap_export.specs.declared.axis.Axis.{Axis};
 use crate::axis::{Axis, labels_of};
 use crate::content::{CellText, LabelLines};
 use crate::fault::ExportFault;
+use crate::minus::More;
 use crate::relabel::relabel;
 use crate::saving::save_files;
 use crate::several::{SnapshotFiles, sum_of_all};
 use cells::Cell;
 use file_folder::Folder;
 use hyper_matrix::Hyper;
+use snap_file::SaveFault;
 use std::alloc::{AllocError, Global};
 
 /// Cells whose rows and columns are numbered anew, and what each number stands for.
@@ -64,6 +66,20 @@ fn compacted(alloc: Global, cells: Vec<Cell>) -> Result<Compact, AllocError>
     })
 }
 
+/// Cells by row and then by column with rows and columns numbered anew.
+pub fn compact_more(alloc: Global, more: More) -> Result<Compact, AllocError>
+    requires dims { IsDimension more.rows × IsDimension more.cols }
+    requires rises { Rise more.cells.items }
+    requires within { AreWithin more.rows more.cols more.cells.items }
+    ensures compact { IfOk result (λ c.
+        IsCompact (built_of more.cells.items) c.rows.items c.cols.items (built_of c.cells.items)) }
+    ensures rises { IfOk result (λ c. Rise c.cells.items) }
+    ensures within { IfOk result (λ c. AreWithin (length c.rows.items) (length c.cols.items) c.cells.items) }
+    ensures few { IfOk result (λ c. IsDimension (dimension c.rows.items) × IsDimension (dimension c.cols.items)) }
+{
+    compacted(alloc, more.cells)
+}
+
 // A matrix with rows and columns numbered anew.
 fn compact_of(alloc: Global, sum: Hyper) -> Result<Compact, AllocError>
     ensures compact { IfOk result (λ c.
@@ -80,8 +96,8 @@ fn compact_of(alloc: Global, sum: Hyper) -> Result<Compact, AllocError>
     compacted(alloc, cells)
 }
 
-// Saves the matrix and its labels.
-fn save<D: Folder>(folder: &mut D, compact: &Compact) -> Result<(), ExportFault>
+/// Saves the matrix and its labels.
+pub fn save<D: Folder>(folder: &mut D, compact: &Compact) -> Result<(), SaveFault>
     requires failures { D.failure_count folder.old + 1 < 2 ^ 64 }
     requires rises { Rise compact.now.cells.items }
     requires within { AreWithin (length compact.now.rows.items) (length compact.now.cols.items)
@@ -91,12 +107,11 @@ fn save<D: Folder>(folder: &mut D, compact: &Compact) -> Result<(), ExportFault>
         (built_of compact.now.cells.items))) (D.files folder.old) (D.files folder.new)) }
     ensures calls { OnOk result (AreSaved D.call_gives D.write_takes D.failure_count folder.old folder.new
         (compact_parts compact.now.rows.items compact.now.cols.items (built_of compact.now.cells.items))) }
-    ensures kept { IfErr result (λ fault. (fault ≡ ExportFault.Save SaveFault.Rename)
+    ensures kept { IfErr result (λ why. (why ≡ SaveFault.Rename)
         ⊎ WhereTold (KeepsNamed (compact_parts compact.now.rows.items compact.now.cols.items
         (built_of compact.now.cells.items))) (D.files folder.old) (D.files folder.new)) }
-    ensures why { IfErr result (λ fault. (why : SaveFault) × (fault ≡ ExportFault.Save why)
-        × SaysWhy D.call_gives D.write_takes D.failure_count folder.old folder.new
-        (compact_parts compact.now.rows.items compact.now.cols.items (built_of compact.now.cells.items)) why) }
+    ensures why { IfErr result (SaysWhy D.call_gives D.write_takes D.failure_count folder.old folder.new
+        (compact_parts compact.now.rows.items compact.now.cols.items (built_of compact.now.cells.items))) }
 {
     let rows = LabelLines {
         labels: &compact.rows,
@@ -109,10 +124,7 @@ fn save<D: Folder>(folder: &mut D, compact: &Compact) -> Result<(), ExportFault>
         cols: dimension(&compact.cols),
         cells: &compact.cells,
     };
-    match save_files(folder, &rows, &cols, &matrix) {
-        Ok(()) => Ok(()),
-        Err(fault) => Err(ExportFault::Save(fault)),
-    }
+    save_files(folder, &rows, &cols, &matrix)
 }
 
 /// Loads so many snapshots of the same dimensions, one behind the other, and saves their sum in a folder as a matrix
@@ -164,7 +176,10 @@ pub fn run_compact<F: SnapshotFiles, D: Folder>(
             // It is below 2^64.
             let _total = sum.total();
             let compact = compact_of(alloc, sum)?;
-            save(folder, &compact)
+            match save(folder, &compact) {
+                Ok(()) => Ok(()),
+                Err(why) => Err(ExportFault::Save(why)),
+            }
         }
         None => Err(ExportFault::SumTooLarge),
     }
