@@ -25,7 +25,7 @@ pub fn answers_count_once()
 {}
 
 /// Where what each of these seats knows begins all batches (`Engine::close`, clause `known`): a batch that one of them
-/// had accepted first (`Engine::put`, clauses `given`, `knows`) is among all at the index of its reply. It is the batch
+/// had accepted first (`Engine::put`, clauses `ok`, `knows`) is among all at the index of its reply. It is the batch
 /// itself and not its entry alone. Where it isn't folded the book has it at that index.
 pub fn accepted_batches_stay()
     ensures given { (o : Accepted) (seats : List SeatView) (all : List Submission) (b : Submission) (k : Kept) →
