@@ -1,3 +1,4 @@
+pub mod BelowLemmas
 pub mod CascadeLaws
 pub mod CutLemmas
 pub mod KeptLemmas

@@ -1,13 +1,13 @@
 -- A row's columns counted one after another, and what a matrix adds to those of others.
 use Rattle.std.proofs.Common.{◌≡◌, ℕ, zero, suc, ◌+◌, ◌<◌, ◌≤◌, ◌⊎◌, ◌^◌, Bool, true, false, cond, eqb, ltb, ◌&&◌}
 use Rattle.std.proofs.Common.{◌||◌, is_some, Option, Some, None, sym, ◌∙◌, ap, subst, refl, inl, inr, arith}
-use Rattle.std.proofs.Common.{List, length, take, drop, get_or, IfSome, MatchOption}
+use Rattle.std.proofs.Common.{List, [], ◌∷◌, ◌-◌, length, take, drop, get_or, IfSome, MatchOption}
 use Rattle.std.specs.declared.sync.Arc.{Arc}
 use Rattle.std.specs.Arc.{arc_value}
 use Rattle.std.specs.Ordering.{eq_by_cmp}
 use Rattle.std.specs.FinMap.{empty, get, insert, len, retain_keys, get-empty, get-insert, len-insert, len-empty}
 use Rattle.std.specs.FinMap.{empty_of_len}
-use Rattle.std.proofs.lemmas.List.{drop_all}
+use Rattle.std.proofs.lemmas.List.{drop_all, take_all, length-drop}
 use Rattle.std.proofs.lemmas.Bool.{cases_order, lt-ltb, le-ltb, eqb-true, eq-eqb, ne_eqb}
 use Rattle.hyper_matrix.specs.Counts.{Place, place_cmp, Counts, ewise_add, add_at, plus}
 use Rattle.hyper_matrix.proofs.CountLaws.{same_counts, places_total, get-ewise_add, plus-none, ewise_add-empty}
@@ -267,3 +267,38 @@ pub none_behind : {Z : Type 0} (layers : List (Arc Matrix Z)) (place rows r : �
     HasColumns (content (all_counts (values (drop place layers)))) rows r 0
 none_behind layers place rows r is = subst (λ l. HasColumns (content (all_counts (values l))) rows r 0)
     (sym (drop_all place layers (omega (arith, is)))) (no_columns rows r)
+
+-- the layers from a place on are the one there and those after it
+from_place : {Z : Type 0} (layers : List (Arc Matrix Z)) (p : ℕ) (item : Arc Matrix Z) → p < length layers →
+    item ≡ get_or layers p item → drop p layers ≡ item ∷ drop (suc p) layers
+from_place [] p item h at = absurd (omega (arith, h))
+from_place {Z = Z} (x ∷ layers) zero item h at = ap (λ (y : Arc Matrix Z). y ∷ layers) (sym at)
+from_place (x ∷ layers) (suc p) item h at = from_place layers p item (omega (arith, h)) at
+
+module _ {Z : Type 0} (layers : List (Arc Matrix Z)) (p : ℕ) (item : Arc Matrix Z) (x : Matrix) (some : 0 < p)
+    (h : p ≤ length layers) (at : item ≡ get_or layers (p - 1) item) (is : x ≡ arc_value item) (rows r : ℕ)
+    (same : x.rows ≡ rows) where
+  deeper : take (length layers - p) (drop p layers) ≡ drop p layers
+  deeper = take_all (length layers - p) (drop p layers) (omega (arith, length-drop p layers))
+
+  -- what the layers after that place have
+  pub found_deeper : (n : ℕ) → HasColumns (content (all_counts (values (drop p layers)))) rows r n →
+      HasColumns (content (all_counts (values (take (length layers - p) (drop p layers))))) x.rows r n
+  found_deeper n found =
+      subst (λ k. HasColumns (content (all_counts (values (take (length layers - p) (drop p layers))))) k r n) (sym same)
+      (subst (λ l. HasColumns (content (all_counts (values l))) rows r n) (sym deeper) found)
+
+  -- and with the one there
+  pub found_there : (n : ℕ) → HasColumns
+      (ewise_add x.counts (content (all_counts (values (take (length layers - p) (drop p layers)))))) x.rows r n →
+      HasColumns (content (all_counts (values (drop (p - 1) layers)))) rows r n
+  found_there n found =
+      let one : drop (p - 1) layers ≡ item ∷ drop p layers =
+      from_place layers (p - 1) item (omega (arith, some, h)) at
+      ∙ ap (λ k. item ∷ drop k layers) {x = suc (p - 1)} {y = p} (omega (arith, some)) in
+      subst (λ l. HasColumns (content (all_counts (values l))) rows r n) (sym one)
+      (subst (λ k. HasColumns (ewise_add (arc_value item).counts (content (all_counts (values (drop p layers))))) k r n)
+      same
+      (subst (λ (y : Matrix). HasColumns (ewise_add y.counts (content (all_counts (values (drop p layers))))) x.rows r n)
+      is
+      (subst (λ l. HasColumns (ewise_add x.counts (content (all_counts (values l)))) x.rows r n) deeper found)))

@@ -95,21 +95,24 @@ pub fn push_layers(out: &mut Vec<Arc<Layer>>, layers: &[Arc<Layer>]) -> Result<(
     Ok(())
 }
 
-/// The layers after an addition: empty below the place where it ends, and shared above.
+/// The layers after an addition: empty before the place where it ends, and shared after it, with what was handed down.
 pub fn layers_after(
     alloc: Global,
     layers: &[Arc<Layer>],
+    below: &[Arc<Layer>],
     empty: &Arc<Layer>,
     end: CascadeEnd,
 ) -> Result<Vec<Arc<Layer>>, AllocError>
     requires { end.place < length layers.now }
     ensures { IfOk result (λ after. values after.items
-        ≡ replicate end.place (arc_value empty.now) ++ end.layer ∷ values (drop (suc end.place) layers.now)) }
+        ≡ (replicate end.place (arc_value empty.now) ++ end.layer ∷ values (drop (suc end.place) layers.now))
+            ++ values below.now) }
 {
-    let mut after = Vec::with_capacity(alloc, layers.len())?;
+    let mut after = Vec::with_capacity(alloc, layers.len() + below.len())?;
     push_copies(&mut after, empty, end.place)?;
     let layer = Arc::new(alloc, end.layer)?;
     after.push(layer)?;
     push_layers(&mut after, &layers[end.place + 1..])?;
+    push_layers(&mut after, below)?;
     Ok(after)
 }

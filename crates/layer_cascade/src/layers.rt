@@ -6,11 +6,16 @@
 //! stay or go on to the next layer, side by side. With cuts that grow by a constant factor an entry is so merged a few
 //! times for each layer, where one large matrix would be written anew for each addition.
 //!
+//! Below the last layer lies what was handed down: at one moment all layers are, by pointers, and empty ones take over
+//! from them. No addition and no compaction reaches it, and its sum, once it is made, is exchanged for it. Contracts see
+//! it as a part of the last layer.
+//!
 //! Each layer is shared and never changed in place, so a plan takes over the layers that it leaves by a pointer, and to
 //! commit it is to exchange pointers. A look-up asks each matrix of each layer and puts the answers together; only
 //! `Layers::sum` builds the sum. Most of these matrices have no entry at the place, so beside most stands a filter of
 //! their places, which mostly says so from one word.
-ghost use Rattle.std.specs.Prelude.{◌≡◌, ℕ, ◌+◌, ◌<◌, ◌≤◌, ◌^◌, ◌⊎◌, ◌↔◌, IfOk, OnOk, length};
+ghost use Rattle.std.specs.Prelude.{◌≡◌, ℕ, ◌+◌, ◌<◌, ◌≤◌, ◌^◌, ◌⊎◌, ◌↔◌, IfOk, OnErr, OnOk, length};
+ghost use Rattle.std.specs.Arc.{arc_value};
 ghost use Rattle.std.specs.FinMap.{get, len};
 ghost use Rattle.cells.specs.Bounds.{IsDimension, AreWithin};
 ghost use Rattle.hyper_matrix.specs.Cells.{built_of};
@@ -21,9 +26,11 @@ ghost use Rattle.layer_cascade.specs.Cascade.{cascade};
 ghost use Rattle.layer_compaction.specs.Shared.{content, values, all_counts};
 ghost use Rattle.layer_cascade.specs.Cuts.{AreCuts};
 ghost use Rattle.hyper_matrix.specs.RowOf.{row_of};
-ghost use Rattle.layer_cascade.specs.Layering.{IsLayering, no_layers, entries_of_layer};
+ghost use Rattle.layer_cascade.specs.Layering.{IsLayering, no_layers, layers_on, entries_of_layer};
+ghost use Rattle.layer_cascade.specs.Stored.{seen_layers, lowest};
 
 use crate::addition::{cascade_end, layers_after, push_copies, push_layers};
+use crate::below::{are_countable, entries_over, side_by_side};
 use crate::compaction::{begin_next, settle};
 use crate::cuts::are_cuts;
 use crate::fault::CascadeFault;
@@ -35,13 +42,15 @@ use layer_compaction::{Compaction, Layer, plus};
 use merged_cells::Sources;
 use std::alloc::{AllocError, Global};
 use std::marker::Model;
+use std::mem;
 use std::sync::{Arc, ArcSlice};
 
 /// From 1 to 8 layers of matrices of the same dimensions, and a cut for each layer but the last: the most entries that
 /// it may have between additions.
 ///
-/// Contracts see the dimensions, each from 1 to 2^60, the cuts, and the list of what each layer holds, the first layer
-/// first. The cuts are kept at any time, and the total of all layers is below 2^64.
+/// Contracts see the dimensions, each from 1 to 2^60, the cuts, the list of what each layer holds, the first layer
+/// first, and what was handed down, which is a part of what the last layer holds. The cuts are kept at any time, and the
+/// total of all layers is below 2^64.
 #[derive(Drop)]
 pub struct Layers {
     rows: u64,
@@ -49,6 +58,7 @@ pub struct Layers {
     cuts: ArcSlice<u64>,
     // The empty layer, shared by all that hold nothing.
     empty: Arc<Layer>,
+    // The layers, and after the last one what was handed down.
     layers: Vec<Arc<Layer>>,
     // From which layer on `begin` looks for what is due, by the first layer that it may choose; both count from 0.
     turns: [usize; MAX_CUTS + 1],
@@ -57,14 +67,15 @@ pub struct Layers {
 impl Model for Layers {
     ghost use Rattle.layer_cascade.specs.Layering.{Layering, layering, coded_layering};
     ghost use Rattle.layer_compaction.specs.Shared.{values, all_counts};
-    ghost use Rattle.layer_cascade.specs.Stored.{KeepsLayers};
+    ghost use Rattle.layer_cascade.specs.Stored.{KeepsLayers, seen_layers, lowest};
     ghost use Rattle.std.specs.Arc.{arc_value, arc_slice_items};
 
     ghost Value = { Layering };
 
     ghost coded = { coded_layering };
 
-    ghost view = { λ a. layering a.rows a.cols (arc_slice_items a.cuts) (all_counts (values a.layers.items)) };
+    ghost view = { λ a. layering a.rows a.cols (arc_slice_items a.cuts)
+        (seen_layers (all_counts (values a.layers.items))) (lowest (all_counts (values a.layers.items))) };
 
     ghost invariant = { λ a.
         KeepsLayers a.rows a.cols (arc_slice_items a.cuts) (values a.layers.items) (arc_value a.empty) };
@@ -96,18 +107,8 @@ fn empty_layers(alloc: Global, rows: u64, cols: u64, cuts: &[u64]) -> Result<Lay
     requires cuts { AreCuts cuts.now }
     ensures { IfOk result (λ layers. layers ≡ no_layers rows cols cuts.now) }
 {
-    let empty = Arc::new(alloc, Layer::new(alloc, rows, cols))?;
-    let mut layers = Vec::with_capacity(alloc, cuts.len() + 1)?;
-    push_copies(&mut layers, &empty, cuts.len() + 1)?;
-    let cuts = ArcSlice::from_slice(alloc, cuts)?;
-    Ok(Layers {
-        rows,
-        cols,
-        cuts,
-        empty,
-        layers,
-        turns: [0; MAX_CUTS + 1],
-    })
+    let nothing = Arc::new(alloc, Layer::new(alloc, rows, cols))?;
+    Layers::with_base(alloc, rows, cols, cuts, nothing)
 }
 
 impl Layers {
@@ -130,6 +131,73 @@ impl Layers {
         }
         let layers = empty_layers(alloc, rows, cols, cuts)?;
         Ok(layers)
+    }
+
+    /// Empty layers over what is handed down to them. Takes memory for the layers alone.
+    ///
+    /// # Errors
+    ///
+    /// A growth was refused.
+    pub fn with_base(
+        alloc: Global,
+        rows: u64,
+        cols: u64,
+        cuts: &[u64],
+        base: Arc<Layer>,
+    ) -> Result<Layers, AllocError>
+        requires rows { IsDimension rows }
+        requires cols { IsDimension cols }
+        requires cuts { AreCuts cuts.now }
+        requires base_rows { (arc_value base).rows ≡ rows }
+        requires base_cols { (arc_value base).cols ≡ cols }
+        ensures { IfOk result (λ layers. layers ≡ layers_on rows cols cuts.now (arc_value base).counts) }
+    {
+        // They bound the total, and the entries.
+        let (_total, _most) = (base.total(), base.most_entries());
+        let empty = Arc::new(alloc, Layer::new(alloc, rows, cols))?;
+        let mut layers = Vec::with_capacity(alloc, cuts.len() + 2)?;
+        push_copies(&mut layers, &empty, cuts.len() + 1)?;
+        layers.push(base)?;
+        let cuts = ArcSlice::from_slice(alloc, cuts)?;
+        Ok(Layers {
+            rows,
+            cols,
+            cuts,
+            empty,
+            layers,
+            turns: [0; MAX_CUTS + 1],
+        })
+    }
+
+    /// Hands all layers down: they lie below the last one, with what was handed down before, and empty ones take over.
+    /// It gives all of it, shared. Takes the time and memory of a pointer for each matrix.
+    ///
+    /// # Errors
+    ///
+    /// A growth was refused. The layers are as before.
+    pub fn hand_down(&mut self, alloc: Global) -> Result<Arc<Layer>, AllocError>
+        ensures handed { OnOk result
+            (self.new ≡ layers_on self.old.rows self.old.cols self.old.cuts (content self.old.layers)) }
+        ensures below { IfOk result (λ below.
+            arc_value below ≡ matrix self.old.rows self.old.cols (content self.old.layers)) }
+        ensures err { OnErr result (self.new ≡ self.old) }
+    {
+        let all = side_by_side(alloc, &self.layers, self.rows, self.cols)?;
+        let below = Arc::new(alloc, all)?;
+        let shared = Arc::try_clone(&below)?;
+        let layers = Layers::with_base(alloc, self.rows, self.cols, &self.cuts, below)?;
+        *self = layers;
+        Ok(shared)
+    }
+
+    /// Puts a layer that holds the same in place of what was handed down, and gives that, to be dropped when no lock is
+    /// held. It takes no memory.
+    pub fn replace_below(&mut self, below: Arc<Layer>) -> Arc<Layer>
+        requires { arc_value below ≡ matrix self.old.rows self.old.cols self.old.below }
+        ensures { self.new ≡ self.old }
+    {
+        let place = self.cuts.len() + 1;
+        mem::replace(&mut self.layers[place], below)
     }
 
     /// The numbers of rows and of columns, each from 1 to 2^60. Constant time.
@@ -175,8 +243,12 @@ impl Layers {
         ensures { IfOk result (λ plan.
             plan ≡ record self.now { layers = cascade self.now.layers self.now.cuts m.now.counts }) }
     {
-        let end = cascade_end(alloc, &self.layers, &self.cuts, m)?;
-        let layers = layers_after(alloc, &self.layers, &self.empty, end)?;
+        let (live, below) = self.layers.split_at(self.cuts.len() + 1);
+        let end = cascade_end(alloc, live, &self.cuts, m)?;
+        let layers = layers_after(alloc, live, below, &self.empty, end)?;
+        if !are_countable(&layers) {
+            return Err(AllocError);
+        }
         let cuts = self.cuts.clone()?;
         let empty = Arc::try_clone(&self.empty)?;
         let after = Layers {
@@ -200,7 +272,7 @@ impl Layers {
         *self = plan.after;
     }
 
-    /// Chooses matrices that stand side by side in one of the layers from the place `from` on and before `until`, which
+    /// Chooses matrices that lie side by side in one of the layers from the place `from` on and before `until`, which
     /// count from 0, and are to be added up, and makes a place for their sum; None where nothing is due there.
     /// `Compaction::run` makes the sum, without these layers and whatever lock they are behind, and `settle` takes it
     /// over. What the layers hold stays, also on an error.
@@ -233,6 +305,8 @@ impl Layers {
         let Some(turn) = self.turns.get(from).copied() else {
             return Ok(None);
         };
+        // What was handed down is none of them.
+        let until = until.min(self.cuts.len() + 1);
         let begun = begin_next(&mut self.layers, &self.cuts, turn, from, until, alloc)?;
         let Some((place, compaction)) = begun else {
             return Ok(None);
@@ -342,9 +416,10 @@ impl Layers {
         sum
     }
 
-    /// All layers, the first one first. Constant time.
+    /// All layers, the first one first, and after the last one what was handed down. Constant time.
     pub(crate) fn all(&self) -> &[Arc<Layer>]
-        ensures { all_counts (values result.now) ≡ self.now.layers }
+        ensures seen { seen_layers (all_counts (values result.now)) ≡ self.now.layers }
+        ensures below { lowest (all_counts (values result.now)) ≡ self.now.below }
     {
         self.layers.as_slice()
     }
@@ -352,13 +427,19 @@ impl Layers {
     /// The number of entries of layer `i`, counted from 1; `None` for 0 and past the last layer. No memory.
     /// Constant time where the layer holds one matrix, and for those in front whose places are known (`plan`), and a
     /// step for each cell where it holds two of like size. Else each cell, but those of the first, is looked up in the
-    /// matrices before its own: at most 31 bisections.
+    /// matrices before its own: at most 31 bisections. For the last layer each is also looked up in what was handed down.
     pub fn layer_entries(&self, i: usize) -> Option<u64>
         ensures { result ≡ entries_of_layer self.now.layers i }
     {
-        let place = i.checked_sub(1)?;
-        let layer = self.layers.get(place)?;
-        Some(layer.entries())
+        let last = self.cuts.len() + 1;
+        if i == 0 || i > last {
+            return None;
+        }
+        let layer = &self.layers[i - 1];
+        if i < last {
+            return Some(layer.entries());
+        }
+        Some(entries_over(layer, &self.layers[i]))
     }
 }
 

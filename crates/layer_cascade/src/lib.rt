@@ -9,11 +9,15 @@
 //! An addition has two steps: `Layers::plan` makes all growth and changes nothing, and `Layers::commit` puts the
 //! planned layers in place and cannot fail. `Layers::view` shows a reader the layers of one moment.
 //!
+//! `Layers::hand_down` puts all layers below the last one, where no addition and no compaction reaches them, and
+//! `Layers::replace_below` puts their sum in place of them.
+//!
 //! Where cells are only added, and the sum is asked for once, lists of them can wait to be added up by
 //! `cells::into_summed`, and `Layers::push_cells` lists what the layers hold, for `layer_compaction::merged`.
 #![tactic(auto)]
 
 mod addition;
+mod below;
 mod compaction;
 mod cuts;
 mod fault;

@@ -14,8 +14,8 @@ use hyper_matrix::Hyper;
 use layer_compaction::Layer;
 use std::sync::Arc;
 
-// Whether one of these runs has an entry at a place. Behind the first that has one, none is asked.
-fn runs_have(runs: &[Arc<FilteredMatrix>], row: u64, col: u64) -> bool
+/// Whether one of these runs has an entry at a place. After the first that has one, none is asked.
+pub fn runs_have(runs: &[Arc<FilteredMatrix>], row: u64, col: u64) -> bool
     ensures { result ≡ is_some (get (content (all_counts (values runs.now))) (row, col)) }
 {
     let mut have = false;

@@ -4,6 +4,7 @@ ghost use Rattle.std.specs.FinMap.{get, len};
 ghost use Rattle.hyper_matrix.specs.Counts.{total};
 ghost use Rattle.hyper_matrix.specs.RowOf.{row_of};
 ghost use Rattle.layer_compaction.specs.Shared.{content, values, all_counts};
+ghost use Rattle.layer_cascade.specs.Stored.{seen_layers, lowest};
 
 use crate::layers::Plan;
 use crate::view::LayerView;
@@ -39,9 +40,11 @@ impl LayerView {
         self.layers.view(alloc)
     }
 
-    /// The layers of that moment, the first one first. Constant time.
+    /// The layers of that moment, the first one first, and after the last one what was handed down: contracts see the
+    /// last two as one layer. Constant time.
     pub fn layers(&self) -> &[Arc<Layer>]
-        ensures { all_counts (values result.now) ≡ self.now.layers }
+        ensures seen { seen_layers (all_counts (values result.now)) ≡ self.now.layers }
+        ensures below { lowest (all_counts (values result.now)) ≡ self.now.below }
     {
         self.layers.all()
     }

@@ -19,7 +19,7 @@ ghost use Rattle.layer_compaction.specs.Steps.{joined, Takes};
 ghost use Rattle.layer_compaction.specs.Due.{IsDue};
 
 use crate::due::{Compaction, Due, begun, copied, due_runs};
-use crate::filters::single_run;
+use crate::filters::{filtered_run, single_run};
 use crate::limits::{MAX_COUNTED, MAX_LISTED, MAX_RUNS};
 use crate::lists::{add_runs, entries_bound, push_cells_of, sum_with_runs};
 use crate::pairs::{kept_in_front, with_rest_added};
@@ -105,6 +105,19 @@ impl Layer {
         ensures { IfOk result (λ layer. layer ≡ m) }
     {
         let run = run_of(alloc, FilteredMatrix::new(alloc, m))?;
+        Layer::of_run(alloc, run)
+    }
+
+    /// The layer of one matrix that is to lie there for long: with a filter, where it has from `FEWEST_FILTERED` entries
+    /// on. It takes 1 to 2 bytes and some nanoseconds for each entry.
+    ///
+    /// # Errors
+    ///
+    /// A growth was refused.
+    pub fn base(alloc: Global, m: Hyper) -> Result<Layer, AllocError>
+        ensures { IfOk result (λ layer. layer ≡ m) }
+    {
+        let run = filtered_run(alloc, m)?;
         Layer::of_run(alloc, run)
     }
 
@@ -250,6 +263,23 @@ impl Layer {
             runs,
             due,
         })
+    }
+
+    /// The runs of this layer in front of those of another, side by side. None of them is due. The runs are shared:
+    /// takes the time and memory of a pointer for each.
+    ///
+    /// # Errors
+    ///
+    /// A growth was refused.
+    pub fn over(&self, alloc: Global, m: Layer) -> Result<Layer, AllocError>
+        requires rows { m.rows ≡ self.now.rows }
+        requires cols { m.cols ≡ self.now.cols }
+        requires fits { total m.counts + total self.now.counts < 2 ^ 64 }
+        ensures { IfOk result (λ layer. layer ≡ joined self.now m) }
+    {
+        let mut layer = self.beside(alloc, m)?;
+        layer.due = None;
+        Ok(layer)
     }
 
     // The same layer with other runs, whose sum is the same. None of them is due.

@@ -1,13 +1,19 @@
 use Rattle.std.proofs.Common.{take, sym, ap, ◌∙◌, refl, inl, inr, arith}
 use Rattle.std.specs.FinMap.{get, get-empty}
-use Rattle.hyper_matrix.specs.Counts.{Place, place_cmp, plus, total}
+use Rattle.hyper_matrix.specs.Counts.{Place, Counts, place_cmp, plus, total}
 use Rattle.hyper_matrix.proofs.CountLaws.{get-ewise_add}
 use Rattle.std.specs.Prelude.{unwrap_or}
 use Rattle.layer_compaction.specs.Shared.{content, values, all_counts}
 use Rattle.layer_compaction.proofs.LayerLemmas.{sum_more, more_fits}
-use Rattle.layer_cascade.proofs.KeptLemmas.{seen_dims}
+use Rattle.layer_cascade.proofs.KeptLemmas.{seen_dims, stored_fits, all_read}
 use Rattle.layer_compaction.proofs.RowLemmas.{count_below}
 use Rattle.layer_cascade.proofs.layers.Layers.get.Goals as goal
+
+pub returns-clause-value : goal.returns-clause-value
+returns-clause-value c =
+    c.counts.invariant.found ∙ ap (λ (m : Counts). get m (c.args.row, c.args.col))
+    (all_read c.self.inside.layers.items c.deref-layer-items.result.now c.counts.layer-index _ _ _ _
+    c.deref-layer-items.ensures.value c.counts-test.false c.self.view_is)
 
 pub counts-init : goal.counts-init
 counts-init c = record {
@@ -22,7 +28,7 @@ plus-count-requires c =
     c.deref.ensures in
     omega (
       arith,
-      c.self.invariant.told.fits,
+      stored_fits _ _ _ _ _ c.self.invariant,
       more,
       ap (λ s. total (content (all_counts (values s)))) c.deref-layer-items.ensures.value,
       ap (λ o. unwrap_or o 0) c.counts.invariant.found,
@@ -37,7 +43,7 @@ counts-preserved c =
     let q : Place = (c.args.row, c.args.col) in
     let before = content (take c.counts.layer-index (all_counts (values items))) in
     let dims = seen_dims c.self.inside.layers.items items c.counts.layer-index c.layer-item.result c.deref.result.now _
-    _ _ c.args.self.now c.deref-layer-items.ensures.value (omega arith) c.layer-item.is c.deref.ensures
+    _ _ _ _ c.args.self.now c.deref-layer-items.ensures.value (omega arith) c.layer-item.is c.deref.ensures
     c.self.invariant.dims c.self.view_is in
     record {
       found =

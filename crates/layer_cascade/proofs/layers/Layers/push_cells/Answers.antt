@@ -5,7 +5,7 @@ use Rattle.hyper_matrix.specs.Counts.{ewise_add}
 use Rattle.hyper_matrix.proofs.CountLaws.{ewise_add_assoc, ewise_add-empty}
 use Rattle.layer_compaction.specs.Shared.{content, values, all_counts}
 use Rattle.layer_compaction.proofs.LayerLemmas.{sum_more}
-use Rattle.layer_cascade.proofs.KeptLemmas.{seen_dims}
+use Rattle.layer_cascade.proofs.KeptLemmas.{seen_dims, all_read}
 use Rattle.layer_cascade.proofs.layers.Layers.push_cells.Goals as goal
 
 pub layers-init : goal.layers-init
@@ -22,7 +22,7 @@ layers-preserved c =
     let done = content (take c.layers.layer-index (all_counts (values items))) in
     let old = c.layers.out.items in
     let new = c.push_cells.new.out.items in
-    let dims = seen_dims c.self.inside.layers.items items c.layers.layer-index c.layer-item.result here _ _ _ _
+    let dims = seen_dims c.self.inside.layers.items items c.layers.layer-index c.layer-item.result here _ _ _ _ _ _
     c.deref-layer-items.ensures.value (omega arith) c.layer-item.is c.deref.ensures c.self.invariant.dims
     c.self.view_is in
     record {
@@ -39,3 +39,9 @@ layers-preserved c =
           (subst (λ n. AreWithin here.rows n old) (sym dims.1)
           (subst (λ n. AreWithin n c.args.self.now.cols old) (sym dims.0) (c.layers.invariant.within all)))));
     }
+
+pub returns-clause-sum : goal.returns-clause-sum
+returns-clause-sum c =
+    c.layers.invariant.told ∙ ap (ewise_add (built_of c.args.out.now.items))
+    (all_read c.self.inside.layers.items c.deref-layer-items.result.now c.layers.layer-index _ _ _ _
+    c.deref-layer-items.ensures.value c.layers-test.false c.self.view_is)

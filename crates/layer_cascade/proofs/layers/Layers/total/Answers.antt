@@ -3,6 +3,7 @@ use Rattle.hyper_matrix.specs.Counts.{total}
 use Rattle.hyper_matrix.proofs.CountLaws.{total-empty}
 use Rattle.layer_compaction.specs.Shared.{content, values, all_counts}
 use Rattle.layer_compaction.proofs.LayerLemmas.{total_more, more_fits}
+use Rattle.layer_cascade.proofs.KeptLemmas.{stored_fits, all_read}
 use Rattle.layer_cascade.proofs.layers.Layers.total.Goals as goal
 
 pub totals-init : goal.totals-init
@@ -15,7 +16,7 @@ overflow_add-sum c =
     c.deref.ensures in
     omega (
       arith,
-      c.self.invariant.told.fits,
+      stored_fits _ _ _ _ _ c.self.invariant,
       c.totals.invariant,
       c.total-sum.ensures.value,
       more,
@@ -29,3 +30,9 @@ totals-preserved c =
     ∙ ap (λ n. total (content (take c.totals.layer-index (all_counts (values items)))) + n)
     c.total-sum.ensures.value ∙ sym (total_more items c.totals.layer-index c.layer-item.result c.deref.result.now
     (omega arith) c.layer-item.is c.deref.ensures)
+
+pub returns-clause-value : goal.returns-clause-value
+returns-clause-value c =
+    c.totals.invariant ∙ ap total
+    (all_read c.self.inside.layers.items c.deref-layer-items.result.now c.totals.layer-index _ _ _ _
+    c.deref-layer-items.ensures.value c.totals-test.false c.self.view_is)
