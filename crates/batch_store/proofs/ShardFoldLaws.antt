@@ -2,7 +2,7 @@
 use Rattle.std.proofs.lemmas.List.Folds.{list_any-append}
 use Rattle.std.proofs.lemmas.Option.{none-some, same_Some}
 use Rattle.std.proofs.Common.{◌≡◌, ℕ, zero, suc, slice_get, ◌-◌, ◌+◌, ◌≤◌, Bool, true, false, cond, ◌||◌, true≢false, List, [], ◌∷◌, ◌++◌, length}
-use Rattle.std.proofs.Common.{take, drop, Option, None, Some, is_some, IfSome, refl, sym, ◌∙◌, ap, subst, arith, length-append}
+use Rattle.std.proofs.Common.{take, drop, replicate, Option, None, Some, is_some, IfSome, refl, sym, ◌∙◌, ap, subst, arith, length-append}
 use Rattle.std.proofs.Common.{append-nil}
 use Rattle.std.proofs.Math.Seq.{take-append_seam, drop-append_seam}
 use Rattle.std.proofs.lemmas.List.{map-append, length-map}
@@ -18,7 +18,9 @@ use Rattle.layer_compaction.specs.Shared.{content}
 use Rattle.layer_compaction.specs.Due.{numbers_of}
 use Rattle.layer_compaction.proofs.DueLemmas.{numbers_same}
 use Rattle.layer_compaction.proofs.LayerLemmas.{empty-ewise_add}
-use Rattle.layer_cascade.specs.Layering.{Layering}
+use Rattle.layer_cascade.specs.Layering.{Layering, layers_on}
+use Rattle.layer_cascade.proofs.KeptLemmas.{content-on}
+use Rattle.std.specs.FinMap.{empty}
 use Rattle.batch_store.specs.declared.pair.Pair.{Pair}
 use Rattle.batch_store.specs.declared.verdict.Entry.{Entry}
 use Rattle.batch_store.specs.Setups.{Setting}
@@ -27,7 +29,7 @@ use Rattle.batch_store.specs.Verdicts.{same_pair}
 use Rattle.batch_store.specs.Parts.{parts_of, record_content}
 use Rattle.batch_store.specs.Books.{same_key, HaveDims}
 use Rattle.batch_store.specs.Shards.{Holding, holding, stands, recorded, AreKeyed, KeepsShard}
-use Rattle.batch_store.specs.ShardFolds.{FoldsFront, IsSealed}
+use Rattle.batch_store.specs.ShardFolds.{Seals, HandsDown, FoldsFront, IsSealed}
 use Rattle.batch_store.proofs.SumLaws.{record-own}
 use Rattle.batch_store.proofs.ShardLaws.{Held, stands_is}
 
@@ -118,12 +120,14 @@ pub none_there : {X : Type 0} (xs : List X) (n : ℕ) → n ≡ length xs → n 
 none_there [] n is h = refl
 none_there (x ∷ xs) n is h = absurd (omega (arith, is, h))
 
--- a base that has the numbers that are due
-pub made_due : (v : Setting) (s : ℕ) (base new : Matrix) (list : List Submission) (due : Option (Arc (List ℕ) Global)) →
-    IsSealed v s base list due → IfSome due (λ (place : Arc (List ℕ) Global). numbers_of new ≡ arc_value place) →
-    is_some due ≡ true → numbers_of new ≡ numbers_of (matrix v.rows v.cols (record_content s v.shards base.counts list))
-made_due v s base new list None sealed made some = absurd (true≢false (sym some))
-made_due v s base new list (Some place) sealed made some = made ∙ sealed
+-- a matrix that has the numbers that are due is what was handed down
+pub made_due : (v : Setting) (s : ℕ) (below : Counts) (base new : Matrix) (list : List Submission)
+    (due : Option (Arc (List ℕ) Global)) → IsSealed v s below base list due →
+    IfSome due (λ (place : Arc (List ℕ) Global). numbers_of new ≡ arc_value place) → is_some due ≡ true →
+    (new ≡ matrix v.rows v.cols below) × (below ≡ record_content s v.shards base.counts list)
+made_due v s below base new list None sealed made some = absurd (true≢false (sym some))
+made_due v s below base new list (Some place) sealed made some =
+    (numbers_same new (matrix v.rows v.cols below) (made ∙ sealed.0), sealed.1)
 
 -- nothing was sealed: what was held is, and nothing is held beside it
 pub swapped : (sealed held now then' : Held) → sealed ≡ [] → now ≡ held → then' ≡ sealed → now ++ then' ≡ sealed ++ held
@@ -135,23 +139,50 @@ pub swapped_back : (sealed held now then' : Held) → held ≡ [] → now ≡ he
 swapped_back sealed held now then' none is other =
     (λ i. (is ∙ none) i ++ other i) ∙ sym (append-nil sealed) ∙ ap (λ (l : Held). sealed ++ l) (sym none)
 
-pub sealed_now : (v : Setting) (s : ℕ) (layers l : Layering) (base : Matrix) (sealed held now : Held) (told : List ℕ) →
-    KeepsShard v s layers base (sealed ++ held) → l ≡ layers →
-    told ≡ numbers_of (matrix l.rows l.cols (content l.layers)) → sealed ≡ [] → now ≡ held →
-    told ≡ numbers_of (matrix v.rows v.cols (record_content s v.shards base.counts (recorded now)))
-sealed_now v s layers l base sealed held now told keeps same is none moved =
-    is ∙ ap (λ (x : Layering). numbers_of (matrix x.rows x.cols (content x.layers))) same
-    ∙ (λ i. numbers_of (matrix (keeps.rows i) (keeps.cols i) (keeps.told.sums i)))
-    ∙ ap (λ (list : Held). numbers_of (matrix v.rows v.cols (record_content s v.shards base.counts (recorded list))))
-    (ap (λ (x : Held). x ++ held) none ∙ sym moved)
+-- the layers were handed down: what lies below them is the base and what was held, which is sealed
+pub sealed_now : (v : Setting) (s : ℕ) (layers after : Layering) (base all : Matrix) (sealed held now : Held)
+    (told : List ℕ) → KeepsShard v s layers base (sealed ++ held) →
+    after ≡ layers_on layers.rows layers.cols layers.cuts (content layers.layers) →
+    all ≡ matrix layers.rows layers.cols (content layers.layers) → told ≡ numbers_of all → sealed ≡ [] → now ≡ held →
+    (told ≡ numbers_of (matrix v.rows v.cols after.below))
+    × (after.below ≡ record_content s v.shards base.counts (recorded now))
+sealed_now v s layers after base all sealed held now told keeps handed is numbers none moved =
+    let low : after.below ≡ content layers.layers = ap (λ (l : Layering). l.below) handed in (
+      numbers ∙ ap numbers_of (is ∙ (λ i. matrix (keeps.rows i) (keeps.cols i) (sym low i))),
+      low ∙ keeps.told.sums ∙ ap (λ (l : Held). record_content s v.shards base.counts (recorded l))
+          (ap (λ (x : Held). x ++ held) none ∙ sym moved),
+    )
+
+module _ (v : Setting) (s free free' : ℕ) (layers after : Layering) (base : Matrix) (held held' : Held) (x : Holding)
+    (keeps : KeepsShard v s layers base held)
+    (handed : after ≡ layers_on layers.rows layers.cols layers.cuts (content layers.layers)) (same : held' ≡ held)
+    (view : holding v s layers.layers layers.below base.counts (recorded held) free ≡ x) where
+  pub seals_handed : Seals x (holding v s after.layers after.below base.counts (recorded held') free')
+  seals_handed =
+      subst (λ (y : Holding). Seals y (holding v s after.layers after.below base.counts (recorded held') free')) view
+      (record {
+        setup = refl;
+        number = refl;
+        sum = ap (λ (l : Layering). content l.layers) handed
+            ∙ content-on (length layers.cuts) (content layers.layers);
+        base = refl;
+        record_list = ap recorded same;
+      })
+
+  pub hands_down : HandsDown x (holding v s after.layers after.below base.counts (recorded held') free')
+  hands_down =
+      subst (λ (y : Holding). HandsDown y (holding v s after.layers after.below base.counts (recorded held') free')) view
+      (record {
+        layers = ap (λ (l : Layering). l.layers) handed
+            ∙ ap (λ (k : List ℕ). replicate (length k) empty ++ content layers.layers ∷ []) keeps.cuts;
+        below = ap (λ (l : Layering). l.below) handed ∙ keeps.told.sums;
+      })
 
 -- ---- the sealed front goes into the base
-module _ (v : Setting) (s : ℕ) (layers : Layering) (base new : Matrix) (sealed held none : Held) (told : List ℕ)
+module _ (v : Setting) (s : ℕ) (layers : Layering) (base new : Matrix) (sealed held none : Held)
     (keeps : KeepsShard v s layers base (sealed ++ held))
-    (due : told ≡ numbers_of (matrix v.rows v.cols (record_content s v.shards base.counts (recorded sealed))))
-    (made : numbers_of new ≡ told) (nothing : none ≡ []) where
-  new_is : new ≡ matrix v.rows v.cols (record_content s v.shards base.counts (recorded sealed))
-  new_is = numbers_same new _ (made ∙ due)
+    (new_is : new ≡ matrix v.rows v.cols (record_content s v.shards base.counts (recorded sealed)))
+    (nothing : none ≡ []) where
 
   counts_are : new.counts ≡ record_content s v.shards base.counts (recorded sealed)
   counts_are = ap (λ (m : Matrix). m.counts) new_is
@@ -190,8 +221,9 @@ module _ (v : Setting) (s : ℕ) (layers : Layering) (base new : Matrix) (sealed
 
   -- what contracts see of that
   pub folds_front : (free : ℕ) (x : Holding) →
-      holding v s layers.layers base.counts (recorded (sealed ++ held)) free ≡ x →
-      FoldsFront (length sealed) x (holding v s layers.layers new.counts (recorded (none ++ held)) free)
+      holding v s layers.layers layers.below base.counts (recorded (sealed ++ held)) free ≡ x →
+      FoldsFront (length sealed) x
+      (holding v s layers.layers layers.below new.counts (recorded (none ++ held)) free)
   folds_front free x view =
       let all = recorded-append sealed held in
       let n = length-recorded sealed in
@@ -200,10 +232,11 @@ module _ (v : Setting) (s : ℕ) (layers : Layering) (base new : Matrix) (sealed
       let behind : drop (length sealed) (recorded (sealed ++ held)) ≡ recorded held =
       (λ i. drop (sym n i) (all i)) ∙ drop-append_seam (recorded sealed) (recorded held) in
       subst (λ (y : Holding). FoldsFront (length sealed) y
-      (holding v s layers.layers new.counts (recorded (none ++ held)) free)) view (record {
+      (holding v s layers.layers layers.below new.counts (recorded (none ++ held)) free)) view (record {
         setup = refl;
         number = refl;
         layers = refl;
+        below = refl;
         free = refl;
         within = omega (arith, length-recorded (sealed ++ held), length-append sealed held);
         base = counts_are ∙ ap (record_content s v.shards base.counts) (sym front);

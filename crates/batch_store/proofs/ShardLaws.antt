@@ -14,9 +14,9 @@ use Rattle.hyper_matrix.specs.Matrix.{Matrix, matrix}
 use Rattle.hyper_matrix.proofs.CountLaws.{ewise_add_assoc, ewise_add-empty, total-ewise_add, total-empty}
 use Rattle.layer_compaction.specs.Shared.{content}
 use Rattle.layer_cascade.specs.Cascade.{cascade, KeepsCuts}
-use Rattle.layer_cascade.specs.Layering.{Layering, layering, no_layers}
+use Rattle.layer_cascade.specs.Layering.{Layering, layering, no_layers, layers_on}
 use Rattle.layer_cascade.proofs.CascadeLaws.{content-cascade, cuts-cascade, length-cascade}
-use Rattle.layer_cascade.proofs.KeptLemmas.{cuts-replicate}
+use Rattle.layer_cascade.proofs.KeptLemmas.{cuts-replicate, content-on, cuts-on, length-on}
 use Rattle.layer_compaction.proofs.LayerLemmas.{empty-ewise_add}
 use Rattle.batch_store.specs.declared.pair.Pair.{Pair}
 use Rattle.batch_store.specs.declared.verdict.Entry.{Entry}
@@ -90,11 +90,11 @@ count_none zero = refl
 count_none (suc n) = ap suc (count_none n)
 
 -- a shard of a base alone, which its layers hold
-begins : (v : Setting) (s : ℕ) (ls : List Counts) (base : Matrix) → IsSetting v → s < v.shards → base.rows ≡ v.rows →
+begins : (v : Setting) (s : ℕ) (ls : List Counts) (b : Counts) (base : Matrix) → IsSetting v → s < v.shards → base.rows ≡ v.rows →
     base.cols ≡ v.cols → part base.counts s v.shards ≡ base.counts → total base.counts ≤ v.limit →
     content ls ≡ base.counts → KeepsCuts ls v.cuts → length ls ≡ length v.cuts + 1 →
-    KeepsShard v s (layering v.rows v.cols v.cuts ls) base []
-begins v s ls base sound here rows cols own within held kept count = record {
+    KeepsShard v s (layering v.rows v.cols v.cuts ls b) base []
+begins v s ls b base sound here rows cols own within held kept count = record {
   told = record {
     sound = sound;
     here = here;
@@ -121,36 +121,54 @@ pub shard_begins : (v : Setting) (s : ℕ) (layers : Layering) (base : Matrix) �
 shard_begins v s layers base sound here is based =
     subst (λ (l : Layering). KeepsShard v s l base []) (sym is)
     (subst (λ (m : Matrix). KeepsShard v s (no_layers v.rows v.cols v.cuts) m []) (sym based)
-    (begins v s (replicate (length v.cuts + 1) empty) (matrix v.rows v.cols empty) sound here refl refl
+    (begins v s (replicate (length v.cuts + 1) empty) empty (matrix v.rows v.cols empty) sound here refl refl
     (part-empty s v.shards) (omega (arith, total-empty)) (content-empty (length v.cuts + 1))
     (cuts-replicate (length v.cuts + 1) v.cuts) (count_none (length v.cuts + 1))))
 
--- empty layers have nothing
-pub none_held : (v : Setting) (layers : Layering) → layers ≡ no_layers v.rows v.cols v.cuts →
-    total (content layers.layers) ≡ 0
-none_held v layers is = ap (λ (l : Layering). total (content l.layers)) is
-    ∙ ap total (content-empty (length v.cuts + 1)) ∙ total-empty
-
 -- a shard of a base
-pub shard_based : (v : Setting) (s : ℕ) (old plan layers : Layering) (base : Matrix) → IsSetting v → s < v.shards →
+pub shard_based : (v : Setting) (s : ℕ) (layers : Layering) (base : Matrix) → IsSetting v → s < v.shards →
     base.rows ≡ v.rows → base.cols ≡ v.cols → part base.counts s v.shards ≡ base.counts → total base.counts ≤ v.limit →
-    old ≡ no_layers v.rows v.cols v.cuts → plan ≡ record old { layers = cascade old.layers old.cuts base.counts } →
-    layers ≡ plan → KeepsShard v s layers base []
-shard_based v s old plan layers base sound here rows cols own within begun planned is =
-    let none = replicate (length v.cuts + 1) empty in
-    let count = count_none (length v.cuts + 1) in
-    let all = is ∙ planned ∙ ap (λ (l : Layering). record l { layers = cascade l.layers l.cuts base.counts }) begun in
-    subst (λ (l : Layering). KeepsShard v s l base []) (sym all)
-    (begins v s (cascade none v.cuts base.counts) base sound here rows cols own within
-    (content-cascade none v.cuts base.counts count
-    ∙ ap (λ (m : Counts). ewise_add m base.counts) (content-empty (length v.cuts + 1))
-    ∙ empty-ewise_add base.counts)
-    (cuts-cascade none v.cuts base.counts (cuts-replicate (length v.cuts + 1) v.cuts))
-    (length-cascade none v.cuts base.counts ∙ count))
+    layers ≡ layers_on v.rows v.cols v.cuts base.counts → KeepsShard v s layers base []
+shard_based v s layers base sound here rows cols own within is =
+    let n = length v.cuts in
+    subst (λ (l : Layering). KeepsShard v s l base []) (sym is)
+    (begins v s (replicate n empty ++ base.counts ∷ []) base.counts base sound here rows cols own within
+    (content-on n base.counts) (cuts-on v.cuts base.counts) (length-on n base.counts))
+
+-- a shard whose layers were handed down
+pub shard_handed : (v : Setting) (s : ℕ) (layers after : Layering) (base : Matrix) (held : Held) →
+    KeepsShard v s layers base held → after ≡ layers_on layers.rows layers.cols layers.cuts (content layers.layers) →
+    KeepsShard v s after base held
+shard_handed v s layers after base held keeps is =
+    let h = keeps.told in
+    let all = content layers.layers in
+    let same : after ≡ layers_on v.rows v.cols v.cuts all =
+    is ∙ (λ i. layers_on (keeps.rows i) (keeps.cols i) (keeps.cuts i) all) in
+    subst (λ (l : Layering). KeepsShard v s l base held) (sym same) (record {
+      told = record {
+        sound = h.sound;
+        here = h.here;
+        sums = content-on (length v.cuts) all ∙ h.sums;
+        own = h.own;
+        cuts_kept = cuts-on v.cuts all;
+        distinct = h.distinct;
+        dims = h.dims;
+        within = omega (arith, h.within, ap total (content-on (length v.cuts) all));
+      };
+      base_rows = keeps.base_rows;
+      base_cols = keeps.base_cols;
+      rows = refl;
+      cols = refl;
+      cuts = refl;
+      count = length-on (length v.cuts) all;
+      keyed = keeps.keyed;
+      few = keeps.few;
+    })
 
 -- a shard whose base is what its layers hold
 pub shard_rebased : (v : Setting) (s free : ℕ) (layers : Layering) (base new : Matrix) (held none : Held)
-    (x : Holding) → KeepsShard v s layers base held → holding v s layers.layers base.counts (recorded held) free ≡ x →
+    (x : Holding) → KeepsShard v s layers base held →
+    holding v s layers.layers layers.below base.counts (recorded held) free ≡ x →
     new ≡ matrix x.setup.rows x.setup.cols (content x.layers) → none ≡ [] → KeepsShard v s layers new none
 shard_rebased v s free layers base new held none x keeps view is nothing =
     let is' : new ≡ matrix v.rows v.cols (content layers.layers) =
@@ -202,7 +220,7 @@ held_push s n layers base list b h count absent rows cols fits =
 
 module _ (s : Setting) (n free : ℕ) (layers : Layering) (base : Matrix) (held : Held) (v : Holding)
     (keeps : KeepsShard s n layers base held)
-    (view : holding s n layers.layers base.counts (recorded held) free ≡ v) where
+    (view : holding s n layers.layers layers.below base.counts (recorded held) free ≡ v) where
   -- a pair that isn't in the record is under no key
   pub absent_held : (p : Pair) (q : Preparation) → p.client ≡ q.batch.client → p.number ≡ q.batch.number →
       stands q.batch.client q.batch.number v.record_list ≡ false → lookup (same_key p) held ≡ None
@@ -225,12 +243,15 @@ module _ (s : Setting) (n free : ℕ) (layers : Layering) (base : Matrix) (held 
   -- the shard after a preparation was put in place
   module _ (q : Preparation) (ready : IsReady v q) (after plan : Layering) (told : plan ≡ q.planned)
       (is : after ≡ plan) where
-    ready_now : IsReady (holding s n layers.layers base.counts (recorded held) free) q
+    ready_now : IsReady (holding s n layers.layers layers.below base.counts (recorded held) free) q
     ready_now = subst (λ (w : Holding). IsReady w q) (sym view) ready
 
     after_is : after ≡ layering s.rows s.cols s.cuts
-        (cascade layers.layers s.cuts (part q.batch.matrix.counts n s.shards))
+        (cascade layers.layers s.cuts (part q.batch.matrix.counts n s.shards)) layers.below
     after_is = is ∙ told ∙ ready_now.planned
+
+    pub below_committed : after.below ≡ layers.below
+    below_committed = ap (λ (l : Layering). l.below) after_is
 
     pub total_committed : total (content after.layers) ≡ shard_total v + q.amount
     total_committed =

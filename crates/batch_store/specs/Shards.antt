@@ -1,6 +1,7 @@
 -- What contracts see of a shard, what it keeps, and when it may take in what was prepared.
---     Holding         the setup, the shard's number, what each layer holds, the base, the batches of the record in
---                     order, and for how many more the record has room without memory
+--     Holding         the setup, the shard's number, what each layer holds, what was handed down, which is a part of what
+--                     the last layer holds, the base, the batches of the record in order, and for how many more the
+--                     record has room without memory
 --     AreHeld         the layers add up to the base and the parts of the record's batches, each layer but the last
 --                     keeps its cut, no client and number stands twice in the record, each batch has the setup's
 --                     dimensions, the base's rows are the shard's own, and the limit holds
@@ -33,20 +34,22 @@ pub record Holding : Type 0 where
   pub setup : Setting
   pub number : ℕ
   pub layers : List Counts
+  pub below : Counts
   pub base : Counts
   pub record_list : List Submission
   pub free : ℕ
 
-abbrev pub holding : Setting → ℕ → List Counts → Counts → List Submission → ℕ → Holding
-holding s n l b r f = record { setup = s; number = n; layers = l; base = b; record_list = r; free = f }
+abbrev pub holding : Setting → ℕ → List Counts → Counts → Counts → List Submission → ℕ → Holding
+holding s n l u b r f =
+    record { setup = s; number = n; layers = l; below = u; base = b; record_list = r; free = f }
 
 abbrev pub coded_holding : Coded Holding
 coded_holding =
-    code_by (Setting × (ℕ × (List Counts × (Counts × (List Submission × ℕ)))))
-    (coded× coded_setting (coded× coded_ℕ
-    (coded× (coded_list coded_counts) (coded× coded_counts (coded× (coded_list coded_submission) coded_ℕ)))))
-    (λ v. (v.setup, (v.number, (v.layers, (v.base, (v.record_list, v.free))))))
-    (λ p. holding p.0 p.1.0 p.1.1.0 p.1.1.1.0 p.1.1.1.1.0 p.1.1.1.1.1) (λ _. refl)
+    code_by (Setting × (ℕ × (List Counts × (Counts × (Counts × (List Submission × ℕ))))))
+    (coded× coded_setting (coded× coded_ℕ (coded× (coded_list coded_counts)
+    (coded× coded_counts (coded× coded_counts (coded× (coded_list coded_submission) coded_ℕ))))))
+    (λ v. (v.setup, (v.number, (v.layers, (v.below, (v.base, (v.record_list, v.free)))))))
+    (λ p. holding p.0 p.1.0 p.1.1.0 p.1.1.1.0 p.1.1.1.1.0 p.1.1.1.1.1.0 p.1.1.1.1.1.1) (λ _. refl)
 
 -- the total of what a shard's layers hold
 abbrev pub shard_total : Holding → ℕ
@@ -69,6 +72,7 @@ pub record Stays (old new : Holding) : Type 0 where
   pub setup : new.setup ≡ old.setup
   pub number : new.number ≡ old.number
   pub layers : new.layers ≡ old.layers
+  pub below : new.below ≡ old.below
   pub base : new.base ≡ old.base
   pub record_list : new.record_list ≡ old.record_list
   pub room : old.free ≤ new.free
@@ -79,11 +83,12 @@ HasDims v b = (b.matrix.rows ≡ v.rows) × (b.matrix.cols ≡ v.cols)
 
 -- the layers as contracts of the crate below see them
 abbrev pub layering_of : Holding → Layering
-layering_of v = layering v.setup.rows v.setup.cols v.setup.cuts v.layers
+layering_of v = layering v.setup.rows v.setup.cols v.setup.cuts v.layers v.below
 
 -- the same with the part of a batch added by the cascade
 abbrev pub layering_with : Holding → Submission → Layering
-layering_with v b = layering v.setup.rows v.setup.cols v.setup.cuts (cascade v.layers v.setup.cuts (part_in v b))
+layering_with v b =
+    layering v.setup.rows v.setup.cols v.setup.cuts (cascade v.layers v.setup.cuts (part_in v b)) v.below
 
 -- the layers, the base and the record of a shard
 pub record AreHeld (setup : Setting) (number : ℕ) (layers : List Counts) (base : Counts)

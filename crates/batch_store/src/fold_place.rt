@@ -4,19 +4,48 @@
 //! nothing but the matrix that its tag tells, so whoever finds it full knows what it has: nothing is compared.
 ghost use Rattle.std.specs.Prelude.{◌≡◌, IfOk, IfSome};
 ghost use Rattle.std.specs.Arc.{arc_value};
-ghost use Rattle.hyper_matrix.specs.Matrix.{matrix};
-ghost use Rattle.layer_compaction.specs.Shared.{content};
 ghost use Rattle.layer_compaction.specs.Due.{numbers_of};
 
 use boxcar::slot::{OnceSlot, SlotRule};
 use boxcar::tag::{Names, Tag};
 use hyper_matrix::Hyper;
-use layer_cascade::LayerView;
+use layer_compaction::Layer;
 use std::alloc::{AllocError, Global};
 use std::marker::Model;
 use std::sync::Arc;
 
-/// What stands in a slot is the matrix that the slot's tag tells.
+/// A base that was made: the matrix, and the same below layers. Both share its cells.
+#[derive(Drop)]
+pub struct MadeBase {
+    pub(crate) base: Arc<Hyper>,
+    pub(crate) below: Arc<Layer>,
+}
+
+impl MadeBase {
+    // Of this sum.
+    fn of(alloc: Global, sum: Hyper) -> Result<MadeBase, AllocError>
+        ensures base { IfOk result (λ made. arc_value made.base ≡ sum) }
+        ensures below { IfOk result (λ made. arc_value made.below ≡ sum) }
+    {
+        let copy = sum.copy(alloc)?;
+        let base = Arc::new(alloc, copy)?;
+        let layer = Layer::base(alloc, sum)?;
+        let below = Arc::new(alloc, layer)?;
+        Ok(MadeBase { base, below })
+    }
+
+    // The same once more, shared.
+    fn shared(&self) -> Option<MadeBase>
+        ensures base { IfSome result (λ made. arc_value made.base ≡ arc_value self.now.base) }
+        ensures below { IfSome result (λ made. arc_value made.below ≡ arc_value self.now.below) }
+    {
+        let base = Arc::try_clone(&self.base).ok()?;
+        let below = Arc::try_clone(&self.below).ok()?;
+        Some(MadeBase { base, below })
+    }
+}
+
+/// What is put into a slot is the matrix that the slot's tag has the numbers of.
 pub struct SameBase;
 
 impl SlotRule<Arc<Hyper>> for SameBase {
@@ -27,7 +56,16 @@ impl SlotRule<Arc<Hyper>> for SameBase {
     ghost holds = { λ tag base. numbers_of (arc_value base) ≡ tag };
 }
 
-/// A place for a base, which is filled once. Contracts see the base's numbers.
+impl SlotRule<MadeBase> for SameBase {
+    ghost use Rattle.std.specs.Prelude.{◌≡◌};
+    ghost use Rattle.std.specs.Arc.{arc_value};
+    ghost use Rattle.layer_compaction.specs.Due.{numbers_of};
+
+    ghost holds = { λ tag made.
+        (numbers_of (arc_value made.base) ≡ tag) × (numbers_of (arc_value made.below) ≡ tag) };
+}
+
+/// A place for the book's base, which is filled once. Contracts see the base's numbers.
 #[derive(Drop)]
 pub struct BasePlace {
     base: OnceSlot<Arc<Hyper>, SameBase>,
@@ -65,53 +103,92 @@ impl BasePlace {
     }
 }
 
-// The numbers of the layers' sum.
-struct OfLayers;
-
-impl Names<LayerView> for OfLayers {
-    ghost use Rattle.hyper_matrix.specs.Matrix.{matrix};
-    ghost use Rattle.layer_compaction.specs.Shared.{content};
-    ghost use Rattle.layer_compaction.specs.Due.{numbers_of};
-
-    ghost numbers = { λ v. numbers_of (matrix v.rows v.cols (content v.layers)) };
+/// A place for a shard's base, which is filled once. Contracts see the base's numbers.
+#[derive(Drop)]
+pub struct MadePlace {
+    made: OnceSlot<MadeBase, SameBase>,
 }
 
-/// The layers of a shard as they were when its record was sealed, which the record's base is to be made of, and the
-/// place for it. Whoever has it needs no lock.
+impl Model for MadePlace {
+    ghost use Rattle.std.specs.Prelude.{List, ℕ};
+
+    ghost Value = { List ℕ };
+
+    ghost view = { λ p. p.made.tag };
+}
+
+impl MadePlace {
+    // An empty place for the base of this tag. It takes no memory.
+    fn empty(tag: &Tag) -> MadePlace
+        ensures { result ≡ tag.now.numbers }
+    {
+        let made = OnceSlot::new(tag);
+        MadePlace { made }
+    }
+
+    /// The base, if it was made, shared. It waits for nobody.
+    pub(crate) fn made(&self) -> Option<MadeBase>
+        ensures base { IfSome result (λ made. numbers_of (arc_value made.base) ≡ self.now) }
+        ensures below { IfSome result (λ made. numbers_of (arc_value made.below) ≡ self.now) }
+    {
+        let made = self.made.get()?;
+        made.shared()
+    }
+
+    // Puts the base here, unless another has. It waits for nobody.
+    fn fill(&self, made: MadeBase)
+        requires base { numbers_of (arc_value made.base) ≡ self.now }
+        requires below { numbers_of (arc_value made.below) ≡ self.now }
+    {
+        let _ = self.made.set(made);
+    }
+}
+
+// The numbers of what was handed down.
+struct OfLayer;
+
+impl Names<Layer> for OfLayer {
+    ghost use Rattle.layer_compaction.specs.Due.{numbers_of};
+
+    ghost numbers = { λ layer. numbers_of layer };
+}
+
+/// What a shard handed down when its record was sealed, which the record's base is to be made of, and the place for it.
+/// Whoever has it needs no lock.
 ///
 /// To drop it is to give the fold up: the shard stays as it is.
 #[derive(Drop)]
 pub struct ShardFold {
-    layers: LayerView,
-    place: Arc<BasePlace>,
-    ghost told: { arc_value place ≡ numbers_of (matrix layers.rows layers.cols (content layers.layers)) },
+    below: Arc<Layer>,
+    place: Arc<MadePlace>,
+    ghost told: { arc_value place ≡ numbers_of (arc_value below) },
 }
 
 impl ShardFold {
-    /// Of these layers, with a new place.
+    /// Of this, with a new place.
     pub(crate) fn begin(
         alloc: Global,
-        layers: LayerView,
-    ) -> Result<(Arc<BasePlace>, ShardFold), AllocError>
-        ensures { IfOk result (λ r.
-            arc_value r.0 ≡ numbers_of (matrix layers.rows layers.cols (content layers.layers))) }
+        below: Arc<Layer>,
+    ) -> Result<(Arc<MadePlace>, ShardFold), AllocError>
+        ensures { IfOk result (λ r. arc_value r.0 ≡ numbers_of (arc_value below)) }
     {
-        let tag = Tag::of::<LayerView, OfLayers>(&layers);
-        let place = Arc::new(alloc, BasePlace::empty(&tag))?;
+        let tag = Tag::of::<Layer, OfLayer>(&below);
+        let place = Arc::new(alloc, MadePlace::empty(&tag))?;
         let kept = Arc::try_clone(&place)?;
-        Ok((kept, ShardFold { layers, place }))
+        Ok((kept, ShardFold { below, place }))
     }
 
-    /// Adds the layers up, and puts the sum in its place, where the shard finds it. Takes the time and memory of a sum
-    /// of all layers. It waits for nobody, and nobody for it.
+    /// Adds up what was handed down, and puts the sum in its place, where the shard finds it. Takes the time and memory
+    /// of the sum, and 1 to 2 bytes and some nanoseconds for each of its entries for the filter. It waits for nobody,
+    /// and nobody for it.
     ///
     /// # Errors
     ///
     /// A growth was refused. All is as before, and it can be called again.
     pub fn run(&self, alloc: Global) -> Result<(), AllocError> {
-        let sum = self.layers.sum(alloc)?;
-        let base = Arc::new(alloc, sum)?;
-        self.place.fill(base);
+        let sum = self.below.sum(alloc)?;
+        let made = MadeBase::of(alloc, sum)?;
+        self.place.fill(made);
         Ok(())
     }
 }

@@ -3,6 +3,7 @@ ghost use Rattle.std.specs.Prelude.{◌≡◌, IfOk};
 ghost use Rattle.std.specs.FinMap.{get as get_count, len};
 ghost use Rattle.hyper_matrix.specs.Counts.{total as total_of};
 ghost use Rattle.hyper_matrix.specs.RowOf.{row_of};
+ghost use Rattle.layer_cascade.specs.Stored.{seen_layers};
 ghost use Rattle.layer_compaction.specs.Shared.{content, values, all_counts};
 
 use crate::view::ShardView;
@@ -24,9 +25,10 @@ impl ShardView {
         Ok(ShardView::new(layers, self.record_len))
     }
 
-    /// The layers, the first one first. Constant time.
+    /// The layers, the first one first, and after the last one what was handed down: contracts see the last two as one
+    /// layer. Constant time.
     pub fn layers(&self) -> &[Arc<Layer>]
-        ensures { all_counts (values result.now) ≡ self.now.layers.layers }
+        ensures { seen_layers (all_counts (values result.now)) ≡ self.now.layers.layers }
     {
         self.layers.layers()
     }

@@ -108,9 +108,13 @@ cascade-seen (l ∷ x ∷ ls) (cut ∷ cuts) m b k =
         ∙ ap (λ (s : List Counts). empty ∷ s) later
 
 -- ---- layers as they are made
-cuts-on : (cuts : List ℕ) (b : Counts) → KeepsCuts (replicate (length cuts) empty ++ b ∷ []) cuts
+pub cuts-on : (cuts : List ℕ) (b : Counts) → KeepsCuts (replicate (length cuts) empty ++ b ∷ []) cuts
 cuts-on [] b = tt
 cuts-on (cut ∷ cuts) b = (omega (arith, len-empty place_cmp ℕ), cuts-on cuts b)
+
+pub length-on : (n : ℕ) (b : Counts) → length (replicate n empty ++ b ∷ []) ≡ n + 1
+length-on n b = length-push (replicate n empty) b
+    ∙ ap (λ (k : ℕ). k + 1) (length-replicate n (empty {X = ℕ} {R = place_cmp}))
 
 pub content-on : (n : ℕ) (b : Counts) → content (replicate n empty ++ b ∷ []) ≡ b
 content-on n b = content-append (replicate n empty) (b ∷ [])
@@ -132,8 +136,7 @@ is_layers_on r c cuts b rows cols are fits = record {
   rows = rows;
   cols = cols;
   cuts = are;
-  count = length-push (replicate (length cuts) empty) b
-      ∙ ap (λ (n : ℕ). n + 1) (length-replicate (length cuts) (empty {X = ℕ} {R = place_cmp}));
+  count = length-on (length cuts) b;
   kept = cuts-on cuts b;
   fits = omega (arith, fits, ap total (content-on (length cuts) b));
   under = (

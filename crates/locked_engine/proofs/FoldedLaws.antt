@@ -138,12 +138,12 @@ based_same a k since x y number base h =
 
 module _ (v : Setting) (o : Accepted) (known : List Submission) (rebased : Bool) (parts amount : ℕ) (x : Holding)
     (h : KeepsLocked v o known rebased parts amount x) where
-  pub stays_locked : (y : Holding) → y.setup ≡ x.setup → y.number ≡ x.number → y.layers ≡ x.layers →
+  pub stays_locked : (y : Holding) → y.setup ≡ x.setup → y.number ≡ x.number → content y.layers ≡ content x.layers →
       y.base ≡ x.base → y.record_list ≡ x.record_list → KeepsLocked v o known rebased parts amount y
-  stays_locked y setup number layers base list = record {
+  stays_locked y setup number sum base list = record {
     setup = setup ∙ h.setup;
     one = h.one;
-    same = h.same ∙ ap (λ l. total (content l)) (sym layers);
+    same = h.same ∙ ap total (sym sum);
     since = h.since;
     based = based_same o v.shards h.since x y number base h.based;
     from = subst (λ (l : List Submission). AreFrom known (h.since ++ l)) (sym list) h.from;

@@ -28,7 +28,7 @@ pub next_shown : (v : Setting) (opened : Accepted) (n : ℕ) (a : Sight) (x : Ho
     (y : Holding) × IsSightOf v opened n a y
 next_shown v opened n a x b setup number based held layers count =
     let list = x.record_list ++ b ∷ [] in (
-      holding x.setup x.number (cascade x.layers x.setup.cuts (part_in x b)) x.base list 0,
+      holding x.setup x.number (cascade x.layers x.setup.cuts (part_in x b)) x.below x.base list 0,
       record {
         shard = record { setup = setup; number = sym number; since = based.0; based = based.1; held = held };
         layers = layers;

@@ -2,4 +2,5 @@
 
 mod adding;
 mod compactions;
+mod handed;
 mod layers;

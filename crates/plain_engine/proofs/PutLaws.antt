@@ -100,7 +100,7 @@ module _ (v : Setting) (a : Accepted) (b : Submission) where
           }
 
       by : (t : Bool) → concerns x.number x.setup.shards b.matrix.counts ≡ t
-          → bare_shard y ≡ cond t (holding x.setup x.number (cascade x.layers x.setup.cuts (part_in x b)) x.base
+          → bare_shard y ≡ cond t (holding x.setup x.number (cascade x.layers x.setup.cuts (part_in x b)) x.below x.base
           (x.record_list ++ b ∷ []) 0) (bare_shard x) → StandsAt v (with_batch a b) i y
       by true here same =
           let this : concerns i v.shards b.matrix.counts ≡ true =

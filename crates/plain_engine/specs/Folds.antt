@@ -18,4 +18,4 @@ AllHoldParts v m [] = Unit {0}
 AllHoldParts v m (x ∷ xs) = HoldsPart v m x × AllHoldParts v m xs
 
 abbrev pub shard_folded : Holding → Holding
-shard_folded x = holding x.setup x.number x.layers (content x.layers) [] 0
+shard_folded x = holding x.setup x.number x.layers x.below (content x.layers) [] 0

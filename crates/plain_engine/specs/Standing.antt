@@ -83,7 +83,7 @@ AreTogether k a i (x ∷ xs) =
     (x.number ≡ i) × (x.base ≡ part a.base i k) × Follows i k x.record_list a.list × AreTogether k a (i + 1) xs
 
 abbrev pub bare_shard : Holding → Holding
-bare_shard x = holding x.setup x.number x.layers x.base x.record_list 0
+bare_shard x = holding x.setup x.number x.layers x.below x.base x.record_list 0
 
 abbrev pub bare : Standing → Standing
 bare e = standing e.setup (register e.book.setup e.book.state 0) (map bare_shard e.shards)

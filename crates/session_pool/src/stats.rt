@@ -3,6 +3,7 @@
 use batch_store::ShardView;
 use locked_engine::{Engine, Named};
 use log_desk::{DeskFigures, Log, LogDesk};
+use layer_compaction::Layer;
 use log_folder::LogNews;
 use server_counters::{BOUNDS, CODES, Counters, KINDS, LastSave, Machine, PutTimes, VERSION};
 use snap_file::Identity;
@@ -74,20 +75,36 @@ fn millis(time: Duration) -> u64 {
         .saturating_add(time.subsec_millis() as u64)
 }
 
-// Each layer of a shard.
+// How many entries a layer has at most, and of how many matrices it is. One without entries is of none: a base without
+// cells is a matrix too, which nobody wants to hear of.
+fn figures_of(layer: &Layer) -> (u64, u64) {
+    let entries = layer.most_entries();
+    let runs = if entries == 0 {
+        0
+    } else {
+        layer.runs().len() as u64
+    };
+    (entries, runs)
+}
+
+// Each layer of a shard. What was handed down, which comes after the last one, counts with that.
 fn push_layers(out: &mut Vec<Figure>, shard: u64, view: &ShardView) -> Result<(), AllocError> {
+    let layers = view.layers();
+    let last = (layers.len() as u64).saturating_sub(1);
     let mut number = 0u64;
-    for layer in view.layers() {
+    let mut carried = (0u64, 0u64);
+    for layer in layers {
+        let (entries, runs) = figures_of(layer);
+        let figures = (carried.0.saturating_add(entries), carried.1.saturating_add(runs));
         number = number.saturating_add(1);
-        let entries = layer.most_entries();
-        // (a base without cells is a run too, which nobody wants to hear of)
-        let runs = if entries == 0 {
-            0
-        } else {
-            layer.runs().len() as u64
-        };
-        out.push(of_layer("shard_layer_entries", shard, number, entries))?;
-        out.push(of_layer("shard_layer_runs", shard, number, runs))?;
+        if number == last {
+            // What comes next was handed down.
+            carried = figures;
+            continue;
+        }
+        let layer = number.min(last);
+        out.push(of_layer("shard_layer_entries", shard, layer, figures.0))?;
+        out.push(of_layer("shard_layer_runs", shard, layer, figures.1))?;
     }
     Ok(())
 }
