@@ -183,7 +183,6 @@ module _ (v : Setting) (s : ℕ) (layers : Layering) (base new : Matrix) (sealed
     (keeps : KeepsShard v s layers base (sealed ++ held))
     (new_is : new ≡ matrix v.rows v.cols (record_content s v.shards base.counts (recorded sealed)))
     (nothing : none ≡ []) where
-
   counts_are : new.counts ≡ record_content s v.shards base.counts (recorded sealed)
   counts_are = ap (λ (m : Matrix). m.counts) new_is
 

@@ -106,7 +106,7 @@ pub fn layers_after(
     requires { end.place < length layers.now }
     ensures { IfOk result (λ after. values after.items
         ≡ (replicate end.place (arc_value empty.now) ++ end.layer ∷ values (drop (suc end.place) layers.now))
-            ++ values below.now) }
+        ++ values below.now) }
 {
     let mut after = Vec::with_capacity(alloc, layers.len() + below.len())?;
     push_copies(&mut after, empty, end.place)?;

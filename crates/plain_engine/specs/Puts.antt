@@ -22,7 +22,7 @@ abbrev pub shard_after : Submission → Holding → Holding
 shard_after b x =
     if concerns x.number x.setup.shards b.matrix.counts
     then holding x.setup x.number (cascade x.layers x.setup.cuts (part_in x b)) x.below x.base
-        (x.record_list ++ b ∷ []) 0
+    (x.record_list ++ b ∷ []) 0
     else bare_shard x
 
 pub record Takes (v : Setting) (b : Submission) (x : Holding) : Type 0 where

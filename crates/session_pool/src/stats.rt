@@ -1,9 +1,9 @@
 //! The numbers that a server tells of itself beside its setup and its status.
 
 use batch_store::ShardView;
+use layer_compaction::Layer;
 use locked_engine::{Engine, Named};
 use log_desk::{DeskFigures, Log, LogDesk};
-use layer_compaction::Layer;
 use log_folder::LogNews;
 use server_counters::{BOUNDS, CODES, Counters, KINDS, LastSave, Machine, PutTimes, VERSION};
 use snap_file::Identity;
@@ -77,7 +77,7 @@ fn millis(time: Duration) -> u64 {
 
 // How many entries a layer has at most, and of how many matrices it is. One without entries is of none: a base without
 // cells is a matrix too, which nobody wants to hear of.
-fn figures_of(layer: &Layer) -> (u64, u64) {
+fn entries_and_runs(layer: &Layer) -> (u64, u64) {
     let entries = layer.most_entries();
     let runs = if entries == 0 {
         0
@@ -94,8 +94,11 @@ fn push_layers(out: &mut Vec<Figure>, shard: u64, view: &ShardView) -> Result<()
     let mut number = 0u64;
     let mut carried = (0u64, 0u64);
     for layer in layers {
-        let (entries, runs) = figures_of(layer);
-        let figures = (carried.0.saturating_add(entries), carried.1.saturating_add(runs));
+        let (entries, runs) = entries_and_runs(layer);
+        let figures = (
+            carried.0.saturating_add(entries),
+            carried.1.saturating_add(runs),
+        );
         number = number.saturating_add(1);
         if number == last {
             // What comes next was handed down.
