@@ -121,6 +121,7 @@ difference_status (difference.NotBefore at) = 3
 difference_status (difference.Falls row col) = 3
 difference_status difference.Memory = 5
 difference_status (difference.Output fault) = 4
+difference_status (difference.Save fault) = 4
 
 abbrev pub fault_status : Fault → ℕ
 fault_status BadNumber = 2

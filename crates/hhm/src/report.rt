@@ -224,6 +224,7 @@ fn difference_status(fault: DifferenceFault) -> u8
         DifferenceFault::Falls(..) => 3,
         DifferenceFault::Memory => 5,
         DifferenceFault::Output(_) => 4,
+        DifferenceFault::Save(_) => 4,
     }
 }
 

@@ -1,5 +1,5 @@
 -- What two snapshots of one book have to do with each other.
-use Rattle.std.proofs.Common.{◌≡◌, ℕ, List, Result, refl, sym, ap, subst, ◌∙◌}
+use Rattle.std.proofs.Common.{◌≡◌, ⊎_elim, inl, inr, ℕ, List, Result, refl, sym, ap, subst, ◌∙◌}
 use Rattle.std.specs.FinMap.{empty}
 use Rattle.cells.specs.Bounds.{IsDimension, AreWithin}
 use Rattle.cells.specs.Order.{Rise}
@@ -21,6 +21,7 @@ use Rattle.mm_laws.specs.MatrixText.{matrix_text}
 use Rattle.mm_laws.proofs.CellsBuilt.{text_of_list}
 use Rattle.snap_file.specs.Snapshots.{Saved}
 use Rattle.snap_file.specs.declared.fault.FileFault.{FileFault}
+use Rattle.snap_file.specs.declared.fault.SaveFault.{SaveFault}
 use Rattle.snap_export.specs.Minus.{sum_in, HasMore, IsUnsubtracted, fault_of, followed_by, more_text}
 use Rattle.snap_export.specs.Minus.{TellsMore, TellsDifference}
 use Rattle.snap_export.specs.declared.minus_fault.DifferenceFault.{DifferenceFault}
@@ -82,6 +83,14 @@ more_told loads s t (fault.NotBefore at) h = h
 more_told loads s t (fault.Falls row col) h = h
 more_told loads s t fault.Memory h = h
 more_told loads s t (fault.Output why) h = tt
+more_told loads s t (fault.Save why) h = tt
+
+-- none of them is of a save
+pub no_save : {F : Type 0} (loads : F → ℕ → Result Saved FileFault → F → Type 0) (s t : F) (why : SaveFault) →
+    TellsMore loads s t (fault.Save why) → ⊥
+no_save loads s t why (inl h) = h
+no_save loads s t why (inr (inl h)) = h.3
+no_save loads s t why (inr (inr h)) = ⊎_elim (λ k. k) (λ k. k.1) h.3
 
 -- what came after a list
 pub sum_after : (a : Accepted) (more : List Submission) → ewise_add (summed a) (list_sum more) ≡ summed (followed_by a more)

@@ -1,9 +1,6 @@
 -- Three files that are made in a folder, and renamed one after the other.
 use Rattle.std.proofs.Common.{◌≡◌, ◌≢◌, ℕ, List, [], Option, Some, None, IsSome, IfSome, unwrap_or, refl, sym}
-use Rattle.std.proofs.Common.{ap, subst, ◌∙◌, arith, get_or, Result, Ok, Err, IfErr, IsErrAnd, OnOk, OnErr, ◌⊎◌, inl}
-use Rattle.std.proofs.Common.{inr, ⊎_elim}
-use Rattle.snap_export.specs.declared.fault.ExportFault.{ExportFault}
-use Rattle.snap_export.specs.declared.fault.ExportFault.TheVariants as fault
+use Rattle.std.proofs.Common.{ap, subst, ◌∙◌, arith, get_or, Result, Ok, Err, IfErr, IsErrAnd, OnOk, OnErr}
 use Rattle.std.specs.FinMap.{get, remove}
 use Rattle.byte_io.specs.Streams.{Answer}
 use Rattle.file_folder.specs.Calls.{FolderCall, Done}
@@ -217,24 +214,6 @@ passed_is (Ok x) fault other is told = absurd is
 passed_is (Err e) fault other is told =
     let same : e ≡ other = cc in
     sym is ∙ same
-
--- what holds of every fault of a save
-pub each_saved : {T : Type 0} (r : Result T ExportFault) (P : SaveFault → Type 0) (Q : ExportFault → Type 0) →
-    ((why : SaveFault) → Q (fault.Save why)) → IfErr r (λ f. (why : SaveFault) × (f ≡ fault.Save why) × P why) →
-    IfErr r Q
-each_saved (Ok x) P Q each told = tt
-each_saved (Err f) P Q each told = subst Q (sym told.1) (each told.0)
-
--- a fault of a save that was told
-pub why_saved : {T : Type 0} (r : Result T ExportFault) (P : SaveFault → Type 0) (K : Type 0) (why : SaveFault) →
-    r ≡ Err (fault.Save why) → IfErr r (λ f. (w : SaveFault) × (f ≡ fault.Save w) × P w) →
-    IfErr r (λ f. (f ≡ fault.Save Rename) ⊎ K) → P why × ((why ≡ Rename) ⊎ K)
-why_saved (Ok x) P K why is told kept = absurd (cc)
-why_saved (Err f) P K why is told kept =
-    let same : told.0 ≡ why = cc in (
-      subst P same told.2,
-      ⊎_elim (λ e. inl (let renamed : why ≡ Rename = cc in renamed)) (λ k. inr k) kept,
-    )
 
 -- ---- faults
 

@@ -17,7 +17,7 @@ use Rattle.snap_file.specs.declared.fault.SnapFault.TheVariants as snap
 use Rattle.snap_file.specs.declared.fault.FileFault.{FileFault}
 use Rattle.snap_file.specs.declared.fault.FileFault.TheVariants as file
 use Rattle.snap_report.specs.Kept.{HasLoaded, most_bytes}
-use Rattle.snap_export.specs.Several.{added_up, HaveLoaded, AreUnsummed, CountsPass, Tells}
+use Rattle.snap_export.specs.Several.{added_up, HaveLoaded, AddUp, AreUnsummed, CountsPass, TellsSum, Tells}
 use Rattle.snap_export.specs.Steps.{IsSumOf, AddsNext, TellsNext, HaveSummed, TellsRead, IsUnread}
 use Rattle.snap_export.specs.Told.{CompactTells}
 use Rattle.snap_export.specs.declared.fault.ExportFault.{ExportFault}
@@ -228,8 +228,8 @@ module _ {F : Type 0} (loads : F → ℕ → Result Saved FileFault → F → Ty
     passes = subst (IsSumOf rows cols h.xs) none h.sum_is;
   }
 
-  -- what is told of the loads is told of an export
-  pub read_told : (s t : F) (count : ℕ) (told : ExportFault) → TellsRead loads s t told → Tells loads s t count told
+  -- what is told of the loads is told of their sum
+  pub read_told : (s t : F) (count : ℕ) (told : ExportFault) → TellsRead loads s t told → TellsSum loads s t count told
   read_told s t count (fault.File number why) h = h
   read_told s t count (fault.DimensionsDiffer number) h = h
   read_told s t count fault.Memory h = h
@@ -237,12 +237,48 @@ module _ {F : Type 0} (loads : F → ℕ → Result Saved FileFault → F → Ty
   read_told s t count (fault.Output why) h = absurd h
   read_told s t count (fault.Save why) h = absurd h
 
-  -- and of a compact one
-  pub compact_told : (s t : F) (count : ℕ) (told : ExportFault) → TellsRead loads s t told →
+  -- what is told of the sum is told of what is written of it
+  pub sum_told : (s t : F) (count : ℕ) (told : ExportFault) → TellsSum loads s t count told → Tells loads s t count told
+  sum_told s t count (fault.File number why) h = h
+  sum_told s t count (fault.DimensionsDiffer number) h = h
+  sum_told s t count fault.Memory h = h
+  sum_told s t count fault.SumTooLarge h = h
+  sum_told s t count (fault.Output why) h = absurd h
+  sum_told s t count (fault.Save why) h = h
+
+  -- and of what is saved
+  pub compact_told : (s t : F) (count : ℕ) (told : ExportFault) → TellsSum loads s t count told →
       CompactTells loads s t count told
   compact_told s t count (fault.File number why) h = h
   compact_told s t count (fault.DimensionsDiffer number) h = h
   compact_told s t count fault.Memory h = h
-  compact_told s t count fault.SumTooLarge h = absurd h
-  compact_told s t count (fault.Output why) h = absurd h
+  compact_told s t count fault.SumTooLarge h = h
+  compact_told s t count (fault.Output why) h = h
   compact_told s t count (fault.Save why) h = absurd h
+
+  -- there was no memory for what is made of a sum
+  pub unsummed : (s t : F) (count rows cols : ℕ) (xs : List Saved) → AddUp loads s t count rows cols xs →
+      AreUnsummed loads s t
+  unsummed s t count rows cols xs h = record {
+    behind = t;
+    rows = rows;
+    cols = cols;
+    xs = xs;
+    loaded = h.loaded;
+    place = inl (refl, h.fits);
+  }
+
+  -- the sum that is held
+  pub holds_sum : (s t : F) (count rows cols : ℕ) (sum : Option Matrix) (m : Matrix) → sum ≡ Some m →
+      HaveSummed loads s t count rows cols sum → total m.counts < 2 ^ 64 →
+      (xs : List Saved) × AddUp loads s t count rows cols xs × (m ≡ matrix rows cols (added_up xs))
+  holds_sum s t count rows cols sum m some h fits =
+      let is = summed_some rows cols h.xs sum m some h.sum_is in (
+        h.xs,
+        record {
+          count_is = h.count_is;
+          loaded = h.loaded;
+          fits = omega (arith, fits, sum_total rows cols h.xs m is);
+        },
+        is,
+      )

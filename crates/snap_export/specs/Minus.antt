@@ -121,12 +121,18 @@ module _ {F : Type 0} (loads : F → ℕ → Result Saved FileFault → F → Ty
 
   abbrev pub TellsDifference : F → F → DifferenceFault → Type 0
   TellsDifference s t (fault.Output told) = Unit {0}
+  TellsDifference s t (fault.Save told) = Unit {0}
   TellsDifference s t told = TellsMore s t told
 
 -- the only fault that may leave something written
 abbrev pub LeavesMore : DifferenceFault → Type 0
 LeavesMore (fault.Output told) = Unit {0}
 LeavesMore _ = ⊥
+
+-- the only fault that may change a folder
+abbrev pub LeavesFolder : DifferenceFault → Type 0
+LeavesFolder (fault.Save told) = Unit {0}
+LeavesFolder _ = ⊥
 
 -- cells in order, within the dimensions of a, that build what a has more than b
 pub record HasMore (a b : Saved) (rows cols : ℕ) (cells : List Cell) : Type 0 where

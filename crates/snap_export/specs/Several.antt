@@ -7,12 +7,14 @@
 --                         book accepts, and all in these dimensions
 --     AddUp loads s t count rows cols xs
 --                         they are so many, and their counts fit 64 bits together
---     Tells loads s t count fault
---                         what a fault says of so many files. One of a file is told only where its load, the next
---                         behind those before it, has answered so; other dimensions where the load has answered a
+--     TellsSum loads s t count fault
+--                         what a fault says of the sum of so many files. One of a file is told only where its load, the
+--                         next behind those before it, has answered so; other dimensions where the load has answered a
 --                         snapshot of other dimensions than those before; that the counts pass 64 bits where all were
 --                         loaded and do; and that there was no memory where a load has answered so, or where the counts
 --                         of what was loaded fit
+--     Tells loads s t count fault
+--                         the same of what is written of the sum, to an output that may fail
 use Rattle.std.specs.Prelude.{◌≡◌, ◌⊎◌, ℕ, ◌<◌, ◌≤◌, ◌^◌, List, [], ◌∷◌, length, Result, Err, Option, None}
 use Rattle.std.specs.FinMap.{empty, get}
 use Rattle.hyper_matrix.specs.Counts.{Counts, Place, ewise_add, plus, total}
@@ -94,13 +96,17 @@ module _ {F : Type 0} (loads : F → ℕ → Result Saved FileFault → F → Ty
     pub loaded : HaveLoaded s behind rows cols xs
     pub place : ((behind ≡ t) × (total (added_up xs) < 2 ^ 64)) ⊎ loads behind most_bytes (Err file.Memory) t
 
+  abbrev pub TellsSum : F → F → ℕ → ExportFault → Type 0
+  TellsSum s t count (fault.File number told) = IsFileFault told × IsRefused s t number told
+  TellsSum s t count (fault.DimensionsDiffer number) = Differs s t number
+  TellsSum s t count fault.SumTooLarge = CountsPass s t count
+  TellsSum s t count fault.Memory = AreUnsummed s t
+  TellsSum s t count (fault.Output told) = ⊥
+  TellsSum s t count (fault.Save told) = ⊥
+
   abbrev pub Tells : F → F → ℕ → ExportFault → Type 0
-  Tells s t count (fault.File number told) = IsFileFault told × IsRefused s t number told
-  Tells s t count (fault.DimensionsDiffer number) = Differs s t number
-  Tells s t count fault.SumTooLarge = CountsPass s t count
-  Tells s t count fault.Memory = AreUnsummed s t
   Tells s t count (fault.Output told) = Unit {0}
-  Tells s t count (fault.Save told) = ⊥
+  Tells s t count told = TellsSum s t count told
 
 -- the only fault that may leave something written
 abbrev pub LeavesText : ExportFault → Type 0

@@ -1,7 +1,6 @@
 -- What `export --compact` says and saves.
 --     compact_parts rows cols n  the three files of a matrix whose rows and columns are numbered anew by these labels
---     CompactTells .. fault      what a fault says of the loads, as of several snapshots; one of a save comes behind
---                                them
+--     CompactTells .. fault      what a fault says: of the sum, or of a save that comes after it
 --     ReadsBack rows cols n p count
 --                                at some place n has this count, and the labels of that place are those of p
 use Rattle.std.specs.Prelude.{◌≡◌, ℕ, ◌<◌, List, length, Some, Result}
@@ -13,7 +12,7 @@ use Rattle.snap_export.specs.Labels.{label, label_lines}
 use Rattle.snap_export.specs.Compact.{compact_text}
 use Rattle.snap_export.specs.Saved.{FilePart}
 use Rattle.snap_export.specs.Files.{parts_of}
-use Rattle.snap_export.specs.Several.{Tells}
+use Rattle.snap_export.specs.Several.{TellsSum}
 use Rattle.snap_export.specs.declared.fault.ExportFault.{ExportFault}
 use Rattle.snap_export.specs.declared.fault.ExportFault.TheVariants as fault
 
@@ -22,9 +21,8 @@ compact_parts rows cols n = parts_of (label_lines rows) (label_lines cols) (comp
 
 abbrev pub CompactTells : {F : Type 0} → (F → ℕ → Result Saved FileFault → F → Type 0) → F → F → ℕ → ExportFault →
     Type 0
-CompactTells loads s t count (fault.Output told) = ⊥
 CompactTells loads s t count (fault.Save told) = Unit {0}
-CompactTells loads s t count told = Tells loads s t count told
+CompactTells loads s t count told = TellsSum loads s t count told
 
 -- the only fault that may change a folder
 abbrev pub LeavesFiles : ExportFault → Type 0

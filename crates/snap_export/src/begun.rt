@@ -38,8 +38,8 @@ fn differs_at(new: &BookList, old: &BookList, at: usize) -> bool
     entry_at(new, at) != entry_at(old, at)
 }
 
-// How many batches a list has, folded or not.
-fn count_of(list: &BookList) -> usize
+/// How many batches a list has, folded or not. Constant time.
+pub fn count_of(list: &BookList) -> usize
     ensures { result ≡ count_in (accepted_in list.now) }
 {
     list.folded.len() + list.batches.len()

@@ -20,12 +20,14 @@ ghost use Rattle.snap_export.specs.declared.axis.Axis.{Axis};
 use crate::axis::{Axis, labels_of};
 use crate::content::{CellText, LabelLines};
 use crate::fault::ExportFault;
+use crate::minus::More;
 use crate::relabel::relabel;
 use crate::saving::save_files;
-use crate::several::{SnapshotFiles, sum_of_all};
+use crate::several::{SnapshotFiles, load_sum};
 use cells::Cell;
 use file_folder::Folder;
 use hyper_matrix::Hyper;
+use snap_file::SaveFault;
 use std::alloc::{AllocError, Global};
 
 /// Cells whose rows and columns are numbered anew, and what each number stands for.
@@ -64,6 +66,20 @@ fn compacted(alloc: Global, cells: Vec<Cell>) -> Result<Compact, AllocError>
     })
 }
 
+/// Cells by row and then by column with rows and columns numbered anew.
+pub fn compact_more(alloc: Global, more: More) -> Result<Compact, AllocError>
+    requires dims { IsDimension more.rows × IsDimension more.cols }
+    requires rises { Rise more.cells.items }
+    requires within { AreWithin more.rows more.cols more.cells.items }
+    ensures compact { IfOk result (λ c.
+        IsCompact (built_of more.cells.items) c.rows.items c.cols.items (built_of c.cells.items)) }
+    ensures rises { IfOk result (λ c. Rise c.cells.items) }
+    ensures within { IfOk result (λ c. AreWithin (length c.rows.items) (length c.cols.items) c.cells.items) }
+    ensures few { IfOk result (λ c. IsDimension (dimension c.rows.items) × IsDimension (dimension c.cols.items)) }
+{
+    compacted(alloc, more.cells)
+}
+
 // A matrix with rows and columns numbered anew.
 fn compact_of(alloc: Global, sum: Hyper) -> Result<Compact, AllocError>
     ensures compact { IfOk result (λ c.
@@ -80,8 +96,8 @@ fn compact_of(alloc: Global, sum: Hyper) -> Result<Compact, AllocError>
     compacted(alloc, cells)
 }
 
-// Saves the matrix and its labels.
-fn save<D: Folder>(folder: &mut D, compact: &Compact) -> Result<(), ExportFault>
+/// Saves the matrix and its labels.
+pub fn save<D: Folder>(folder: &mut D, compact: &Compact) -> Result<(), SaveFault>
     requires failures { D.failure_count folder.old + 1 < 2 ^ 64 }
     requires rises { Rise compact.now.cells.items }
     requires within { AreWithin (length compact.now.rows.items) (length compact.now.cols.items)
@@ -91,12 +107,11 @@ fn save<D: Folder>(folder: &mut D, compact: &Compact) -> Result<(), ExportFault>
         (built_of compact.now.cells.items))) (D.files folder.old) (D.files folder.new)) }
     ensures calls { OnOk result (AreSaved D.call_gives D.write_takes D.failure_count folder.old folder.new
         (compact_parts compact.now.rows.items compact.now.cols.items (built_of compact.now.cells.items))) }
-    ensures kept { IfErr result (λ fault. (fault ≡ ExportFault.Save SaveFault.Rename)
+    ensures kept { IfErr result (λ why. (why ≡ SaveFault.Rename)
         ⊎ WhereTold (KeepsNamed (compact_parts compact.now.rows.items compact.now.cols.items
         (built_of compact.now.cells.items))) (D.files folder.old) (D.files folder.new)) }
-    ensures why { IfErr result (λ fault. (why : SaveFault) × (fault ≡ ExportFault.Save why)
-        × SaysWhy D.call_gives D.write_takes D.failure_count folder.old folder.new
-        (compact_parts compact.now.rows.items compact.now.cols.items (built_of compact.now.cells.items)) why) }
+    ensures why { IfErr result (SaysWhy D.call_gives D.write_takes D.failure_count folder.old folder.new
+        (compact_parts compact.now.rows.items compact.now.cols.items (built_of compact.now.cells.items))) }
 {
     let rows = LabelLines {
         labels: &compact.rows,
@@ -109,10 +124,7 @@ fn save<D: Folder>(folder: &mut D, compact: &Compact) -> Result<(), ExportFault>
         cols: dimension(&compact.cols),
         cells: &compact.cells,
     };
-    match save_files(folder, &rows, &cols, &matrix) {
-        Ok(()) => Ok(()),
-        Err(fault) => Err(ExportFault::Save(fault)),
-    }
+    save_files(folder, &rows, &cols, &matrix)
 }
 
 /// Loads so many snapshots of the same dimensions, one behind the other, and saves their sum in a folder as a matrix
@@ -121,13 +133,13 @@ fn save<D: Folder>(folder: &mut D, compact: &Compact) -> Result<(), ExportFault>
 /// whose row i, counted from 1, is the row that line i of `rows.txt` names, and so for columns. Where there is no
 /// entry, the matrix is one of 1 by 1.
 ///
-/// Beside what `run_export_of` takes, memory goes to a list of the cells, 24 bytes each, while the sum is there, and
+/// Beside what `load_sum` takes, memory goes to a list of the cells, 24 bytes each, while the sum is there, and
 /// then to 8 bytes for each row with an entry and for each cell; the time is that of sorting the columns of all cells,
 /// and of two bisections for each.
 ///
 /// # Errors
 ///
-/// Those of `run_export_of` but for `Output`: the folder isn't touched then. `Save` where a file could not be made,
+/// Those of `load_sum`: the folder isn't touched then. `Save` where a file could not be made,
 /// written, synced or renamed: but for `Rename` what stands under the three names is as it was.
 pub fn run_compact<F: SnapshotFiles, D: Folder>(
     alloc: Global,
@@ -158,14 +170,10 @@ pub fn run_compact<F: SnapshotFiles, D: Folder>(
     ensures told { IfErr result (λ fault. CompactTells F.load_gives files.old files.new count fault) }
     ensures untouched { IfErr result (λ fault. LeavesFiles fault ⊎ (folder.new ≡ folder.old)) }
 {
-    let found = sum_of_all(alloc, files, count)?;
-    match found {
-        Some(sum) => {
-            // It is below 2^64.
-            let _total = sum.total();
-            let compact = compact_of(alloc, sum)?;
-            save(folder, &compact)
-        }
-        None => Err(ExportFault::SumTooLarge),
+    let sum = load_sum(alloc, files, count)?;
+    let compact = compact_of(alloc, sum)?;
+    match save(folder, &compact) {
+        Ok(()) => Ok(()),
+        Err(why) => Err(ExportFault::Save(why)),
     }
 }

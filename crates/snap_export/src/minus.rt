@@ -112,8 +112,8 @@ fn more_of(alloc: Global, new: Snapshot, old: Snapshot) -> Result<More, MinusFau
     Ok(More { rows, cols, cells })
 }
 
-// Loads two snapshots, and gives what the first has more than the second.
-fn load_more<F: SnapshotFiles>(alloc: Global, files: &mut F) -> Result<More, DifferenceFault>
+/// Loads two snapshots, and gives what the first has more than the second.
+pub fn load_more<F: SnapshotFiles>(alloc: Global, files: &mut F) -> Result<More, DifferenceFault>
     ensures ok { IfOk result (λ more. (a b : Saved) × HaveBoth F.load_gives files.old files.new a b × IsLater a b
         × HasMore a b more.rows more.cols more.cells.items) }
     ensures err { IfErr result (λ fault. TellsMore F.load_gives files.old files.new fault) }

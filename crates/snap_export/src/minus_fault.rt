@@ -2,7 +2,8 @@
 
 use byte_io::WriteFault;
 use matrix_difference::MinusFault;
-use snap_file::FileFault;
+use snap_file::{FileFault, SaveFault};
+use std::alloc::AllocError;
 use thiserror::Error;
 
 /// Why the difference of two snapshots was not written.
@@ -34,6 +35,20 @@ pub enum DifferenceFault {
     /// The sink failed, or took nothing of what it was offered. What it took before is the front of the text.
     #[error(transparent)]
     Output(WriteFault),
+    /// A file of the folder could not be made, written, synced or named. The fault is never want of memory.
+    #[error(transparent)]
+    Save(SaveFault),
+}
+
+impl From<AllocError> for DifferenceFault {
+    ghost use Rattle.std.specs.Prelude.{◌≡◌};
+    ghost use Rattle.snap_export.specs.declared.minus_fault.DifferenceFault.TheVariants.{Memory};
+
+    ghost from_gives = { λ _ fault. fault ≡ Memory };
+
+    fn from(_error: AllocError) -> DifferenceFault {
+        DifferenceFault::Memory
+    }
 }
 
 impl From<MinusFault> for DifferenceFault {

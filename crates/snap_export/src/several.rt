@@ -9,6 +9,7 @@ ghost use Rattle.byte_io.specs.Writing.{HasTaken, HasStopped};
 ghost use Rattle.byte_io.specs.declared.fault.WriteFault.{WriteFault};
 ghost use Rattle.cells.specs.Bounds.{IsDimension};
 ghost use Rattle.hyper_matrix.specs.Counts.{ewise_add, total};
+ghost use Rattle.hyper_matrix.specs.Matrix.{matrix};
 ghost use Rattle.batch_store.specs.Accepted.{summed};
 ghost use Rattle.batch_store.specs.Books.{AreAccepted, accepted_in};
 ghost use Rattle.mm_laws.specs.MatrixText.{matrix_text};
@@ -16,7 +17,7 @@ ghost use Rattle.snap_file.specs.Snapshots.{Saved, HasBase};
 ghost use Rattle.snap_file.specs.declared.fault.SnapFault.{SnapFault};
 ghost use Rattle.snap_file.specs.declared.fault.FileFault.{FileFault};
 ghost use Rattle.snap_report.specs.Kept.{HasLoaded};
-ghost use Rattle.snap_export.specs.Several.{added_up, sum_text, AddUp, Tells, LeavesText};
+ghost use Rattle.snap_export.specs.Several.{added_up, sum_text, AddUp, TellsSum, Tells, LeavesText};
 ghost use Rattle.snap_export.specs.Steps.{IsUnread, IsSumOf, Grows, FitsBehind, AddsNext, TellsNext};
 ghost use Rattle.snap_export.specs.Steps.{HaveSummed, TellsRead};
 
@@ -161,8 +162,8 @@ fn next_sum<F: SnapshotFiles>(
     Ok(next)
 }
 
-/// Loads so many snapshots, and gives the sum of all, or None where their counts don't fit 64 bits.
-pub fn sum_of_all<F: SnapshotFiles>(
+// Loads so many snapshots, and gives the sum of all, or None where their counts don't fit 64 bits.
+fn sum_of_all<F: SnapshotFiles>(
     alloc: Global,
     files: &mut F,
     count: u64,
@@ -180,6 +181,41 @@ pub fn sum_of_all<F: SnapshotFiles>(
     Ok(sum)
 }
 
+/// Loads so many snapshots of the same dimensions, one after the other, and gives the sum of all: of what their
+/// batches, folded ones too, add up to together. A file that is given twice counts twice.
+///
+/// Shards, cuts and limits may differ. Takes the memory of the sum as a matrix, 24 bytes a cell, twice while a part is
+/// added, and that of the largest of the files. The time is that of all loads, of sorting the cells of each, and of a
+/// copy of the sum for each.
+///
+/// # Errors
+///
+/// In this order: at its place in the order of the files, `File` where one can't be opened or read or is no snapshot,
+/// and `DimensionsDiffer` where its dimensions aren't those of the first; `Memory` where memory ran out, at a place up
+/// to which no file bears a fault and the counts fit 64 bits, unless a load was refused it; `SumTooLarge` once all
+/// files were loaded.
+pub fn load_sum<F: SnapshotFiles>(
+    alloc: Global,
+    files: &mut F,
+    count: u64,
+) -> Result<Hyper, ExportFault>
+    requires some { 0 < count }
+    // So many loads were made, one after the other, and have answered snapshots of one size that fit together.
+    ensures ok { IfOk result (λ sum. (rows cols : ℕ) × (xs : List Saved)
+        × AddUp F.load_gives files.old files.new count rows cols xs × (sum ≡ matrix rows cols (added_up xs))) }
+    ensures err { IfErr result (λ fault. TellsSum F.load_gives files.old files.new count fault) }
+{
+    let found = sum_of_all(alloc, files, count)?;
+    match found {
+        Some(sum) => {
+            // It is below 2^64.
+            let _total = sum.total();
+            Ok(sum)
+        }
+        None => Err(ExportFault::SumTooLarge),
+    }
+}
+
 // Writes the canonical text of a matrix, a line at a time.
 fn write_hyper<W: Sink>(w: &mut W, m: &Hyper) -> Result<(), WriteFault>
     requires { W.failure_count w.old + 1 < 2 ^ 64 }
@@ -195,20 +231,15 @@ fn write_hyper<W: Sink>(w: &mut W, m: &Hyper) -> Result<(), WriteFault>
     writer.finish(w)
 }
 
-/// Loads so many snapshots of the same dimensions, one behind the other, and writes the canonical text of the sum of
-/// all: of what their batches, folded ones too, add up to together. A file that is given twice counts twice.
+/// Loads so many snapshots of the same dimensions, one after the other, and writes the canonical text of the sum of
+/// all, as `load_sum` gives it.
 ///
-/// Shards, cuts and limits may differ. Takes the memory of the sum as a matrix, 17 to 57 bytes a cell, and that of
-/// `run_export` for the largest of the files. The time is that of all loads, of sorting the cells of each, and of a
-/// copy of the sum for each. `w` is not flushed.
+/// Takes the memory and the time of `load_sum`. `w` is not flushed.
 ///
 /// # Errors
 ///
-/// In this order: at its place in the order of the files, `File` where one can't be opened or read or is no snapshot,
-/// and `DimensionsDiffer` where its dimensions aren't those of the first; `Memory` where memory ran out, at a place up
-/// to which no file bears a fault and the counts fit 64 bits, unless a load was refused it; `SumTooLarge` once all
-/// files were loaded; `Output` where the sink failed or took nothing. Only `Output` leaves anything written: the first
-/// bytes of the text, as many as it says.
+/// Those of `load_sum`, in its order, and then `Output` where the sink failed or took nothing. Only `Output` leaves
+/// anything written: the first bytes of the text, as many as it says.
 pub fn run_export_of<F: SnapshotFiles, W: Sink>(
     alloc: Global,
     files: &mut F,
@@ -230,16 +261,9 @@ pub fn run_export_of<F: SnapshotFiles, W: Sink>(
     ensures told { IfErr result (λ fault. Tells F.load_gives files.old files.new count fault) }
     ensures unwritten { IfErr result (λ fault. LeavesText fault ⊎ (w.new ≡ w.old)) }
 {
-    let found = sum_of_all(alloc, files, count)?;
-    match found {
-        Some(sum) => {
-            // It is below 2^64.
-            let _total = sum.total();
-            match write_hyper(w, &sum) {
-                Ok(()) => Ok(()),
-                Err(fault) => Err(ExportFault::Output(fault)),
-            }
-        }
-        None => Err(ExportFault::SumTooLarge),
+    let sum = load_sum(alloc, files, count)?;
+    match write_hyper(w, &sum) {
+        Ok(()) => Ok(()),
+        Err(fault) => Err(ExportFault::Output(fault)),
     }
 }

@@ -1,3 +1,4 @@
 pub mod TurnLaws
 pub mod LineLaws
 pub mod RangeLaws
+pub mod SpanLemmas

@@ -1,6 +1,6 @@
 -- Lines that are written one after the other.
 use Rattle.std.proofs.Common.{◌≡◌, ℕ, ◌+◌, ◌<◌, List, ◌++◌, length, take, drop, get_or, flat_map, sym, ap, subst, ◌∙◌}
-use Rattle.std.proofs.Common.{append_assoc, [], ◌∷◌, Result, Ok, Err, OnOk}
+use Rattle.std.proofs.Common.{[], Result, Ok, Err, OnOk}
 use Rattle.std.proofs.lemmas.List.{take-append-drop, take_more, flat_map_more}
 use Rattle.std.proofs.lemmas.Grind.{flat_map-append}
 use Rattle.byte_io.specs.Streams.{Answer}

@@ -2,7 +2,7 @@
 use Rattle.std.proofs.Common.{◌≡◌, ℕ, Bool, true, false, cond, List, [], ◌∷◌, map, filter, refl, ap, sym, ◌∙◌}
 use Rattle.std.specs.FinMap.{entries}
 use Rattle.cells.specs.declared.cell.Cell.{Cell}
-use Rattle.hyper_matrix.specs.Counts.{Place}
+use Rattle.hyper_matrix.specs.Counts.{Counts, Place}
 use Rattle.cells.specs.Order.{Rise}
 use Rattle.hyper_matrix.specs.Cells.{built_of, entry_of}
 use Rattle.batch_store.specs.Setups.{Setting}
@@ -31,10 +31,15 @@ cells_again [] = refl
 cells_again (c ∷ cells) = ap (λ (l : List Cell). c ∷ l) (cells_again cells)
 
 -- so the text of the cells of a range is that of the range in the matrix that all cells build
+pub range_written : (rows cols : ℕ) (r : CellRange) (m : Counts) (cells list : List Cell) → Rise cells →
+    built_of cells ≡ m → map entry_of list ≡ cells_in r (map entry_of cells) →
+    canonical rows cols list ≡ canonical rows cols (map cell_of (cells_in r (entries m)))
+range_written rows cols r m cells list rises sum kept =
+    ap (canonical rows cols)
+    (sym (cells_again list) ∙ ap (map cell_of) (kept
+    ∙ ap (cells_in r) (sym (entries_of_list cells rises) ∙ ap entries sum)))
+
 pub text_of_range : (s : Setting) (r : CellRange) (a : Accepted) (cells list : List Cell) → Rise cells →
     built_of cells ≡ summed a → map entry_of list ≡ cells_in r (map entry_of cells) →
     canonical s.rows s.cols list ≡ list_text s r a
-text_of_range s r a cells list rises sum kept =
-    ap (canonical s.rows s.cols)
-    (sym (cells_again list) ∙ ap (map cell_of) (kept
-    ∙ ap (cells_in r) (sym (entries_of_list cells rises) ∙ ap entries sum)))
+text_of_range s r a = range_written s.rows s.cols r (summed a)

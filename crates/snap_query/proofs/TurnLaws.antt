@@ -1,5 +1,5 @@
 -- Cells with rows and columns exchanged.
-use Rattle.std.proofs.Common.{◌≡◌, ℕ, ◌+◌, List, [], ◌∷◌, map, refl, sym, ◌∙◌, ap, subst, arith}
+use Rattle.std.proofs.Common.{◌≡◌, ℕ, ◌+◌, List, [], ◌∷◌, map, refl, sym, ◌∙◌, ap}
 use Rattle.std.specs.FinMap.{entries}
 use Rattle.cells.specs.declared.cell.Cell.{Cell}
 use Rattle.cells.specs.Order.{Rise}
@@ -7,7 +7,7 @@ use Rattle.cells.specs.Sums.{sum_at}
 use Rattle.hyper_matrix.proofs.BuiltOfLaws.{built_of-same}
 use Rattle.hyper_matrix.proofs.PlaceOrderLaws.{sorted_rising}
 use Rattle.hyper_matrix.proofs.SortedListLaws.{built-in_order, entries-in_order}
-use Rattle.hyper_matrix.specs.Counts.{Place, built}
+use Rattle.hyper_matrix.specs.Counts.{built}
 use Rattle.hyper_matrix.specs.Cells.{built_of, cell_total, entry_of}
 use Rattle.snap_query.specs.Turned.{turned_cell}
 use Rattle.snap_query.specs.Queries.{turned}

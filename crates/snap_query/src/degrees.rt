@@ -23,8 +23,12 @@ use snap_file::SnapshotFile;
 use snap_report::{CheckFault, SNAPSHOT_BYTES, sum_of_list};
 use std::alloc::{AllocError, Global};
 
-// How many rows or columns of cells have how many entries.
-fn degrees_of_cells(alloc: Global, cells: Vec<Cell>, side: Side) -> Result<Vec<Degree>, AllocError>
+/// How many rows or columns of cells have how many entries.
+pub fn degrees_of_cells(
+    alloc: Global,
+    cells: Vec<Cell>,
+    side: Side,
+) -> Result<Vec<Degree>, AllocError>
     requires rises { Rise cells.items }
     requires fits { cell_total cells.items < 2 ^ 64 }
     ensures { IfOk result (λ list. list.items ≡ degrees_of (tallies (entries (by_side side (built_of cells.items))))) }

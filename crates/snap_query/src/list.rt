@@ -20,8 +20,8 @@ use snap_file::SnapshotFile;
 use snap_report::{CheckFault, SNAPSHOT_BYTES, sum_of_list};
 use std::alloc::Global;
 
-// The cells that stand in a range, in their own memory.
-fn kept_in(cells: Vec<Cell>, range: &CellRange) -> Vec<Cell>
+/// The cells that stand in a range, in their own memory.
+pub fn kept_in(cells: Vec<Cell>, range: &CellRange) -> Vec<Cell>
     ensures cells { map entry_of result.items ≡ cells_in range.now (map entry_of cells.items) }
     ensures within { (rows cols : ℕ) → AreWithin rows cols cells.items → AreWithin rows cols result.items }
 {

@@ -32,8 +32,8 @@ pub struct TopQuery {
     pub most: usize,
 }
 
-// The rows or columns of cells that lead.
-fn top_of_cells(
+/// The rows or columns of cells that lead.
+pub fn top_of_cells(
     alloc: Global,
     cells: Vec<Cell>,
     query: &TopQuery,
