@@ -350,7 +350,8 @@ def differences_in_order(folder):
     ]:  # fmt: skip
         check(f"minus: first {fault}", minus(new, old), told(fault, status))
     for words in [[good, "--minus"], [good, "--minus", ""], ["--minus", good], [good, good, "--minus", good],
-                  [good, "--minus", good, "--minus", good], ["--compact", folder, good, "--minus", good]]:  # fmt: skip
+                  [good, "--minus", good, "--minus", good],
+                  ["--compact", folder, good, good, "--minus", good]]:  # fmt: skip
         output, error, status = run(["export", *words])
         check(f"minus: words {words}", (output, error != "", status), ("", True, 2))
     new = file("new", [FIRST, SECOND])
@@ -394,6 +395,10 @@ def drawn_differences(folder):
         old = kept(folder, "old", folded_at(batches[:at], old_at, **wide))
         more = wanted_difference(batches, batches[:at])
         check(f"minus: book {draw}", minus(new, old), (text_of(size, size, more), "", 0))
+        saved = os.path.join(folder, f"more{draw}")
+        check(f"minus: book {draw}, compact", run(["export", new, "--minus", old, "--compact", saved]), ("", "", 0))
+        check(f"minus: book {draw}, its files", files_in(saved), compact_of(more))
+        shutil.rmtree(saved)
         both = added(cells_of(batches[:at]), [(*place, count) for place, count in more.items()])
         check(f"minus: book {draw} adds up", both, added(cells_of(batches)))
         if at < len(batches):

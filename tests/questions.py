@@ -1,6 +1,6 @@
 #!/usr/bin/env python3
 """Asks the built program about snapshots: which rows and columns lead, what stands in a range, how many have how many
-entries, and whether a batch is in it. Compares what it writes with a plain model of the snapshot's sum.
+entries, whether a batch is in it; and several together. Compares what it writes with a plain model of their sum.
 
     python3 tests/questions.py PATH-TO-HHM [--seed N] [--rounds N]
 
@@ -104,8 +104,8 @@ def summed(batches, base=()):
 class File:
     """A file in a folder, with these bytes."""
 
-    def __init__(self, folder):
-        self.path = os.path.join(folder, "file")
+    def __init__(self, folder, name="file"):
+        self.path = os.path.join(folder, name)
 
     def hold(self, held):
         with open(self.path, "wb") as file:
@@ -206,10 +206,6 @@ def rounds(program, file, seed, count):
         asked.append((["list", *words], listed(cells, dims, *spans)))
         for words, output in asked:
             yield f"round {number}: {' '.join(words)}", run(program, Case("", [*words, file.path], output=output))
-        for index, (entry, (client, pair, _)) in enumerate(zip(map(entry_of, batches), batches)):
-            line = "index %d cells %d total %d\n" % (index, *entry[2:])
-            case = Case("", ["has", file.path, str(client), str(pair)], output=line)
-            yield f"round {number}: has {client} {pair}", run(program, case)
 
 
 def entry_of(batch):
@@ -260,6 +256,88 @@ def has(program, file):
         yield f"has: {fault}, {len(held)} bytes", run(program, case)
 
 
+def spans(program, file, other):
+    """Two files that are asked together, worked out by hand, and their faults."""
+    file.hold(held_of([(7, 1, [(0, 0, 5)])], 0, (3, 3), shards=4))
+    other.hold(held_of([(7, 1, [(0, 0, 3)])], 1, (3, 3)))
+    both = [file.path, other.path]
+    for words, output in [
+        (["check", *both], "rows 3 cols 3 shards 4 batches 2 total 8 entries 1\n"),
+        (["check", *both[::-1]], "rows 3 cols 3 shards 2 batches 2 total 8 entries 1\n"),
+        (["check", *both, file.path], "rows 3 cols 3 shards 4 batches 3 total 13 entries 1\n"),
+        (["top", *both], "0 1 8\n"),
+        (["top", "--cols", "-n", "1", *both], "0 1 8\n"),
+        (["top", "-n", "0", *both], ""),
+        (["list", *both], BANNER + "3 3 1\n1 1 8\n"),
+        (["list", "--rows", "1-2", *both], BANNER + "3 3 0\n"),
+        (["degrees", *both], "1 1 1\n"),
+        (["degrees", "--cols", file.path, *both], "1 1 1\n"),
+    ]:
+        yield f"together: {words[:-2]}", run(program, Case("", words, output=output))
+    for word in ("check", "top", "list", "degrees"):
+        none = file.path + ".none"
+        case = Case("", [word, file.path, none], error=f"hhm: file: NotFound in {none}\n", status=4)
+        yield f"together: {word} of none", run(program, case)
+        case = Case("", [word, file.path, "/dev/null"], error="hhm: file: OpenFailed in /dev/null\n", status=4)
+        yield f"together: {word} of a device", run(program, case)
+        case = Case("", [word, *both], error="hhm: output failed after 0 bytes\n", status=4)
+        with tempfile.TemporaryFile() as output:
+            wrong = run(program, case, stdout=output, preexec_fn=lambda: os.close(1))
+            yield f"together: {word} on a closed output", wrong
+    case = Case("", ["check", "--log", "none", *both], error=SOME, status=2)
+    yield "together: check with a log", run(program, case)
+    case = Case("", ["top", "-n", "x", file.path, file.path + ".none"], error="hhm: settings: BadNumber\n", status=2)
+    yield "together: top of no number", run(program, case)
+    held = held_of([(7, 1, [(0, 0, 5)])], 0, (3, 4)), held_of([], 0, (4, 3)), held_of([], 0, (3, 3))[:-1]
+    faults = "DimensionsDiffer", "DimensionsDiffer", "Truncated"
+    for bytes_held, fault in zip(held, faults):
+        other.hold(bytes_held)
+        for word in ("check", "top", "list", "degrees"):
+            error = f"hhm: snapshot: {fault} in {other.path}\n"
+            yield f"together: {word}, {fault}", run(program, Case("", [word, *both], error=error, status=3))
+    other.hold(held_of([(1, 1, [(2, 2, MOST - 4)])], 0, (3, 3)))
+    for word in ("check", "top", "list", "degrees"):
+        case = Case("", [word, *both], error="hhm: sum: SumTooLarge\n", status=3)
+        yield f"together: {word}, too large", run(program, case)
+    file.hold(held_of([(7, 1, [(0, 0, 4)])], 0, (3, 3)))
+    case = Case("", ["check", *both], output=f"rows 3 cols 3 shards 2 batches 2 total {MOST} entries 2\n")
+    yield "together: the highest total", run(program, case)
+
+
+def rounds_together(program, folder, seed, count):
+    """Random snapshots of one size, asked together, and for their batches one by one."""
+    random_of = random.Random(seed)
+    for number in range(count):
+        dims = [random_of.choice([1, 7, 300, 2**20, SIZE]) for _ in range(2)]
+        files, cells, batches, first = [], [], 0, random_of.choice([1, 2, 64])
+        for at in range(random_of.choice([2, 2, 3, 5])):
+            held = batches_of(random_of, dims, random_of.randrange(5))
+            file = File(folder, f"part{at}")
+            file.hold(held_of(held, random_of.randrange(len(held) + 1), dims, first if at == 0 else 3))
+            files.append(file.path)
+            cells, batches = summed(held, cells), batches + len(held)
+            for index, batch in enumerate(held):
+                line = "index %d cells %d total %d\n" % (index, *entry_of(batch)[2:])
+                words = ["has", file.path, *map(str, batch[:2])]
+                yield f"round {number}: {' '.join(words)}", run(program, Case("", words, output=line))
+            words = ["has", file.path, "5", "5"]
+            yield f"round {number}: has none", run(program, Case("", words, output="none\n", status=1))
+        total = sum(it[2] for it in cells)
+        line = "rows %d cols %d shards %d batches %d total %d entries %d\n"
+        asked = [(["check"], line % (*dims, first, batches, total, len(cells)))]
+        for side in ("--rows", "--cols"):
+            asked.append((["degrees", side], degrees(cells, side)))
+            most = random_of.choice([0, 1, 2, 10, 1_000])
+            by = random_of.choice(["total", "entries"])
+            asked.append((["top", side, "--by", by, "-n", str(most)], top(cells, side, by, most)))
+        bounds = [random_span(random_of, cells, at, dims[at]) for at in range(2)]
+        words = ["--rows", "%d-%d" % bounds[0], "--cols", "%d-%d" % bounds[1]]
+        asked.append((["list", *words], listed(cells, dims, *bounds)))
+        for words, output in asked:
+            case = Case("", [*words, *files], output=output)
+            yield f"round {number} of {len(files)}: {' '.join(words)}", run(program, case)
+
+
 def main():
     parser = argparse.ArgumentParser()
     parser.add_argument("program")
@@ -269,7 +347,11 @@ def main():
     passed = failed = 0
     with tempfile.TemporaryDirectory() as folder:
         file = File(folder)
-        cases = [tables(given.program, file), faults(given.program, file), has(given.program, file)]
+        cases = [
+            tables(given.program, file), faults(given.program, file), has(given.program, file),
+            spans(given.program, file, File(folder, "other")),
+            rounds_together(given.program, folder, given.seed, given.rounds),
+        ]  # fmt: skip
         for name, wrong in [it for group in cases for it in group] + list(
             rounds(given.program, file, given.seed, given.rounds)
         ):

@@ -1,7 +1,9 @@
 //! The command line: the words of the program, as `clap` reads them.
 
 use crate::export_cli::export_command;
-use crate::query_cli::{degrees_command, has_command, list_command, top_command};
+use crate::query_cli::{
+    degrees_command, has_command, list_command, snapshots_command, top_command,
+};
 use crate::serve_cli::{serve_command, with_numbers};
 use clap::builder::ValueParser;
 use clap::{Arg, ArgAction, Command};
@@ -36,15 +38,18 @@ named it has ' of FILE' or ' in FILE' behind it, unless that is - alone:
   hhm: output failed after N bytes status 4
   hhm: memory                      status 5";
 
-const CHECK_ABOUT: &str = "Read a snapshot, and say in one line what it holds";
+const CHECK_ABOUT: &str = "Read snapshots, and say in one line what they hold";
 
 const CHECK_HELP: &str = "\
-Reads the snapshot in the file PATH to its end, and writes one line to standard
+Reads the snapshots in the files PATH to their ends, and writes one line to standard
 output, where E is the number of cells of the sum of all batches:
 
   rows R cols C shards K batches B total T entries E
 
-With --log it reads the log in that file too. The line is then of what the
+All have the rows and columns of the first, and K is of the first; a file that is
+named twice counts twice.
+
+With --log it reads the log in that file too, beside one PATH. The line is then of what the
 snapshot and the log hold together, and behind it stands another: the place of
 the log's first batch, how many batches it has, how many whole pages of 4096
 bytes with its head, and how many pages behind them aren't empty, which are of
@@ -55,10 +60,12 @@ a block that was being written:
 Where a log is given, a snapshot that isn't there counts as an empty one. No
 file is changed, and no lock is taken.
 
-A fault is one line on standard error:
+A fault is one line on standard error, which of several files ends with ' in FILE':
 
   hhm: file: NotFound, OpenFailed  status 4
   hhm: snapshot: KIND              status 3 (KIND Read: 4)
+  hhm: snapshot: DimensionsDiffer  status 3
+  hhm: sum: SumTooLarge            status 3
   hhm: log: NotFound, OpenFailed   status 4
   hhm: log: KIND at page N         status 3 (KIND Read: 4)
   hhm: settings: LogDiffers        status 2
@@ -191,7 +198,7 @@ fn check_command<'a>(alloc: Global) -> Result<Command<'a>, AllocError> {
         .value_name("PATH")
         .value_parser(ValueParser::NonEmptyString)
         .help("The file of the log to read with it");
-    let check = snapshot_command(alloc, "check", CHECK_ABOUT, CHECK_HELP)?;
+    let check = snapshots_command(alloc, "check", CHECK_ABOUT, CHECK_HELP)?;
     check.arg(log)
 }
 

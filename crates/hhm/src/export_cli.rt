@@ -27,7 +27,8 @@ files of DIR stay, and files of these names are replaced once all are whole.
 With --minus it writes what one snapshot, PATH, has more than an earlier one of the
 same book, OLD: where OLD has no entry the entry of PATH, and where it has one what
 the count has risen by, if it has. The batches of OLD are the first of PATH, folded
-or not. It is a text of counts by the time of their acceptance.
+or not. It is a text of counts by the time of their acceptance; with --compact it is
+saved in DIR as a sum is.
 
 Nothing is written unless all snapshots were read without a fault. A fault is one
 line on standard error, the first in the order of the files; where several are
@@ -55,8 +56,7 @@ pub fn export_command<'a>(alloc: Global) -> Result<Command<'a>, AllocError> {
         .long("minus")
         .value_name("OLD")
         .value_parser(ValueParser::NonEmptyString)
-        .help("Write what PATH has more than this earlier snapshot of its book")
-        .conflicts_with("compact")?;
+        .help("Write what PATH has more than this earlier snapshot of its book");
     let path = Arg::new(alloc, "path")
         .value_name("PATH")
         .required(true)

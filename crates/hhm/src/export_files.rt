@@ -1,4 +1,4 @@
-//! The snapshots that `export` is given by name.
+//! The snapshots that a word is given by name.
 ghost use Rattle.std.specs.Prelude.{⊤};
 
 use crate::report::Fault;
@@ -43,7 +43,7 @@ impl<'a, R: Files, W: Watch> SnapshotFiles for NamedSnapshots<'a, R, W> {
     }
 }
 
-/// The file that a fault is of, if these were exported, and there are several.
+/// The file that a fault is of, if these were read, and there are several.
 pub fn file_of<'a>(fault: &Fault, names: &[&'a str]) -> Place<'a> {
     if names.len() < 2 {
         return Place::Nowhere;

@@ -5,7 +5,7 @@
 //! `snap_roll` ask them, `socket_server` serves.
 #![tactic(auto)]
 
-ghost use Rattle.std.specs.Prelude.{IfOk};
+ghost use Rattle.std.specs.Prelude.{◌<◌, length, IfOk};
 ghost use Rattle.hhm.specs.Asked.{IsAsked};
 
 mod cli;
@@ -43,9 +43,11 @@ use clap::error::ErrorKind;
 use clap::{ArgMatches, Error};
 use mm_sum::{run_sum, run_sum_of};
 use progress::{Entries, ProgressLine, Watched};
-use snap_export::{NamedFolder, run_compact, run_export_minus, run_export_of};
+use snap_export::{NamedFolder, run_compact, run_compact_minus, run_export_minus, run_export_of};
 use snap_file::{FileFault, Identity, LockedFile, NamedFile, PathLock, lock, lock_existing};
-use snap_query::{run_degrees, run_list, run_top};
+use snap_query::{
+    run_check_of, run_degrees, run_degrees_of, run_list, run_list_of, run_top, run_top_of,
+};
 use snap_report::{
     CheckFault, MakeFault, NamedLog, NewFile, NewSnapshot, ReplacedFile, run_check,
     run_check_with_log, run_export, run_fold, run_fold_to, run_fold_with_log, run_fork,
@@ -132,25 +134,69 @@ fn run_matches(rt: &HostRuntime, matches: &ArgMatches) -> Result<Outcome, Fault>
             Ok(Outcome::Ended(ExitCode::SUCCESS))
         }
         Some(("has", given)) => Ok(Outcome::Ended(run_has_word(rt, given)?)),
-        Some((word, given)) => {
-            run_word(rt, word, given)?;
-            Ok(Outcome::Ended(ExitCode::SUCCESS))
-        }
+        Some((word, given)) => Ok(Outcome::Ended(run_word(rt, word, given))),
         None => Ok(Outcome::Ended(ExitCode::SUCCESS)),
     }
 }
 
-/// Does what a word asks for that is given the path of a snapshot. How far the reading has come is said on a terminal.
-fn run_word(rt: &HostRuntime, word: &str, given: &ArgMatches) -> Result<(), Fault> {
-    let path = given.get_str("path").unwrap_or("");
-    let is_shown = rt.stderr().is_terminal();
-    let mut line = progress_line(rt, is_shown, Entries::Cells);
-    let outcome = match given.get_str("log") {
-        Some(log) => run_check_word(rt, path, log, &mut line),
-        None => run_snapshot_word(rt, word, path, given, &mut line),
+/// Does what a word asks for that is given the paths of snapshots, and says a fault in one line on standard error.
+fn run_word(rt: &HostRuntime, word: &str, given: &ArgMatches) -> ExitCode {
+    let names = given.get_strs("path").unwrap_or(&[]);
+    if given.get_str("log").is_some() && names.len() > 1 {
+        let _ = eprintln!(rt; "error: the argument '--log <LOG>' takes one PATH beside it");
+        return ExitCode::from(2);
+    }
+    end_reading(rt, names, ask_snapshots(rt, word, given, names))
+}
+
+/// Asks the snapshots in these files. How far the reading has come is said on a terminal.
+fn ask_snapshots(
+    rt: &HostRuntime,
+    word: &str,
+    given: &ArgMatches,
+    names: &[&str],
+) -> Result<(), Fault> {
+    let mut line = progress_line(rt, rt.stderr().is_terminal(), Entries::Cells);
+    let outcome = match names {
+        // The command line has one at least.
+        [] => Ok(()),
+        [path] => match given.get_str("log") {
+            Some(log) => run_check_word(rt, *path, log, &mut line),
+            None => run_snapshot_word(rt, word, *path, given, &mut line),
+        },
+        _ => run_span_word(rt, word, names, given, &mut line),
     };
     clear(&mut line);
     outcome
+}
+
+/// Does what a word asks for that asks several snapshots together.
+fn run_span_word(
+    rt: &HostRuntime,
+    word: &str,
+    names: &[&str],
+    given: &ArgMatches,
+    line: &mut Shown<'_>,
+) -> Result<(), Fault>
+    requires { 0 < length names.now }
+{
+    let mut out = Counted::new(rt.stdout());
+    let mut files = NamedSnapshots::new(rt, names, line);
+    let count = names.len() as u64;
+    match word {
+        "check" => run_check_of(rt.alloc(), &mut files, count, &mut out)?,
+        "top" => run_top_of(
+            rt.alloc(),
+            &mut files,
+            count,
+            &mut out,
+            &top_query_of(given)?,
+        )?,
+        "list" => run_list_of(rt.alloc(), &mut files, count, &mut out, &range_of(given)?)?,
+        "degrees" => run_degrees_of(rt.alloc(), &mut files, count, &mut out, side_of(given))?,
+        _ => {}
+    }
+    Ok(())
 }
 
 /// Says whether the snapshot under a path has the batch of a client with a number: with status 1 where it hasn't.
@@ -229,10 +275,10 @@ fn sum_texts(
 fn run_export_word(rt: &HostRuntime, given: &ArgMatches) -> ExitCode {
     let names = given.get_strs("path").unwrap_or(&[]);
     match (given.get_str("minus"), names) {
-        (None, _) => end_export(rt, names, export_named(rt, given, names)),
+        (None, _) => end_reading(rt, names, export_named(rt, given, names)),
         (Some(old), [new]) => {
             let both = [*new, old];
-            end_export(rt, &both, export_minus(rt, &both))
+            end_reading(rt, &both, export_minus(rt, given, &both))
         }
         (Some(_), _) => {
             let _ = eprintln!(rt; "error: the argument '--minus <OLD>' takes one PATH beside it");
@@ -241,8 +287,8 @@ fn run_export_word(rt: &HostRuntime, given: &ArgMatches) -> ExitCode {
     }
 }
 
-/// Says a fault of an export in one line on standard error, with the file that it is of where there are several.
-fn end_export(rt: &HostRuntime, names: &[&str], outcome: Result<(), Fault>) -> ExitCode {
+/// Says a fault of reading in one line on standard error, with the file that it is of where there are several.
+fn end_reading(rt: &HostRuntime, names: &[&str], outcome: Result<(), Fault>) -> ExitCode {
     match outcome {
         Ok(()) => ExitCode::SUCCESS,
         Err(fault) => {
@@ -264,14 +310,39 @@ fn export_named(rt: &HostRuntime, given: &ArgMatches, names: &[&str]) -> Result<
     outcome
 }
 
-/// Writes what the snapshot in the first file has more than the one in the second to standard output. How far the
-/// reading has come is said on a terminal.
-fn export_minus(rt: &HostRuntime, names: &[&str]) -> Result<(), Fault> {
-    let mut out = Counted::new(rt.stdout());
+/// Exports what the snapshot in the first file has more than the one in the second. How far the reading has come is
+/// said on a terminal.
+fn export_minus(rt: &HostRuntime, given: &ArgMatches, names: &[&str]) -> Result<(), Fault> {
     let mut line = progress_line(rt, rt.stderr().is_terminal(), Entries::Cells);
-    let mut files = NamedSnapshots::new(rt, names, &mut line);
-    let outcome = run_export_minus(rt.alloc(), &mut files, &mut out);
+    let outcome = match given.get_str("compact") {
+        Some(folder) => save_compact_minus(rt, names, folder, &mut line),
+        None => write_minus(rt, names, &mut line),
+    };
     clear(&mut line);
+    outcome
+}
+
+/// Writes the difference to standard output.
+fn write_minus(rt: &HostRuntime, names: &[&str], line: &mut Shown<'_>) -> Result<(), Fault> {
+    let mut out = Counted::new(rt.stdout());
+    let mut files = NamedSnapshots::new(rt, names, line);
+    run_export_minus(rt.alloc(), &mut files, &mut out)?;
+    Ok(())
+}
+
+/// Saves the difference in a folder, without empty rows and columns.
+fn save_compact_minus(
+    rt: &HostRuntime,
+    names: &[&str],
+    path: &str,
+    line: &mut Shown<'_>,
+) -> Result<(), Fault> {
+    let mut files = NamedSnapshots::new(rt, names, line);
+    let mut folder = NamedFolder::new(rt, rt.alloc(), path)?;
+    let outcome = run_compact_minus(rt.alloc(), &mut files, &mut folder);
+    if outcome.is_err() {
+        folder.remove_unfinished();
+    }
     outcome?;
     Ok(())
 }

@@ -1,4 +1,4 @@
-//! The words that ask a snapshot, `top`, `list`, `degrees` and `has`, as `clap` reads them.
+//! The words that ask snapshots, `top`, `list`, `degrees` and `has`, as `clap` reads them.
 
 use clap::builder::ValueParser;
 use clap::{Arg, ArgAction, Command};
@@ -7,10 +7,10 @@ use std::alloc::{AllocError, Global};
 /// How many rows `top` tells where no `-n` is given.
 pub const DEFAULT_MOST: &str = "10";
 
-const TOP_ABOUT: &str = "Write the rows or columns of a snapshot's sum that lead";
+const TOP_ABOUT: &str = "Write the rows or columns of the sum of snapshots that lead";
 
 const TOP_HELP: &str = "\
-Reads the snapshot in the file PATH to its end, and writes a line to standard
+Reads the snapshots in the files PATH to their ends, and writes a line to standard
 output for each of the rows that lead in the sum of all batches, the highest
 first, and equal ones by row:
 
@@ -18,36 +18,46 @@ first, and equal ones by row:
 
 The row counts from 0, as in queries. With --cols the lines are of columns.
 
-A fault is one line on standard error:
+Several files are asked together: of their sum. All have the rows and columns of
+the first; a file that is named twice counts twice.
+
+A fault is one line on standard error, which of several files ends with ' in FILE':
 
   hhm: settings: BadNumber         status 2
   hhm: file: NotFound, OpenFailed  status 4
   hhm: snapshot: KIND              status 3 (KIND Read: 4)
+  hhm: snapshot: DimensionsDiffer  status 3
+  hhm: sum: SumTooLarge            status 3
   hhm: output failed after N bytes status 4
   hhm: memory                      status 5";
 
-const LIST_ABOUT: &str = "Write the cells in a range of a snapshot's sum";
+const LIST_ABOUT: &str = "Write the cells in a range of the sum of snapshots";
 
 const LIST_HELP: &str = "\
-Reads the snapshot in the file PATH to its end, and writes the cells of the sum
+Reads the snapshots in the files PATH to their ends, and writes the cells of the sum
 of all batches that lie in these rows and columns to standard output: a Matrix
 Market text (matrix coordinate integer general) with the dimensions of the whole
 and the cells by row and then by column. The bounds A and B count from 0, as in
 queries, and are both in; the text counts from 1.
 
-A fault is one line on standard error:
+Several files are asked together: of their sum. All have the rows and columns of
+the first; a file that is named twice counts twice.
+
+A fault is one line on standard error, which of several files ends with ' in FILE':
 
   hhm: settings: BadNumber         status 2
   hhm: file: NotFound, OpenFailed  status 4
   hhm: snapshot: KIND              status 3 (KIND Read: 4)
+  hhm: snapshot: DimensionsDiffer  status 3
+  hhm: sum: SumTooLarge            status 3
   hhm: output failed after N bytes status 4
   hhm: memory                      status 5";
 
 const DEGREES_ABOUT: &str =
-    "Write how many rows or columns of a snapshot's sum have how many entries";
+    "Write how many rows or columns of the sum of snapshots have how many entries";
 
 const DEGREES_HELP: &str = "\
-Reads the snapshot in the file PATH to its end, and writes a line to standard
+Reads the snapshots in the files PATH to their ends, and writes a line to standard
 output for 1 entry, 2 to 3, 4 to 7 and so on: how many rows of the sum of all
 batches have so many. Where no row has, there is no line:
 
@@ -55,10 +65,15 @@ batches have so many. Where no row has, there is no line:
 
 With --cols the lines are of columns.
 
-A fault is one line on standard error:
+Several files are asked together: of their sum. All have the rows and columns of
+the first; a file that is named twice counts twice.
+
+A fault is one line on standard error, which of several files ends with ' in FILE':
 
   hhm: file: NotFound, OpenFailed  status 4
   hhm: snapshot: KIND              status 3 (KIND Read: 4)
+  hhm: snapshot: DimensionsDiffer  status 3
+  hhm: sum: SumTooLarge            status 3
   hhm: output failed after N bytes status 4
   hhm: memory                      status 5";
 
@@ -83,8 +98,8 @@ Folded batches are found too. A fault is one line on standard error:
   hhm: output failed after N bytes status 4
   hhm: memory                      status 5";
 
-// A word that reads the snapshot in a file.
-fn word<'a>(
+/// A word that reads the snapshots in files.
+pub fn snapshots_command<'a>(
     alloc: Global,
     name: &'a str,
     about: &'a str,
@@ -93,8 +108,10 @@ fn word<'a>(
     let path = Arg::new(alloc, "path")
         .value_name("PATH")
         .required(true)
+        .action(ArgAction::Append)
+        .num_args(1..)
         .value_parser(ValueParser::NonEmptyString)
-        .help("The snapshot's file");
+        .help("The snapshots' files");
     Command::new(alloc, name)
         .about(about)
         .after_help(help)
@@ -128,7 +145,7 @@ pub fn top_command<'a>(alloc: Global) -> Result<Command<'a>, AllocError> {
         .value_name("N")
         .default_value(DEFAULT_MOST)
         .help("How many are told");
-    let top = word(alloc, "top", TOP_ABOUT, TOP_HELP)?;
+    let top = snapshots_command(alloc, "top", TOP_ABOUT, TOP_HELP)?;
     with_side(alloc, top)?.arg(by)?.arg(most)
 }
 
@@ -140,13 +157,13 @@ pub fn list_command<'a>(alloc: Global) -> Result<Command<'a>, AllocError> {
     let cols = Arg::new(alloc, "cols").long("cols").value_name("A-B").help(
         "The columns from A to B, counted from 0; all where it is left out",
     );
-    let list = word(alloc, "list", LIST_ABOUT, LIST_HELP)?;
+    let list = snapshots_command(alloc, "list", LIST_ABOUT, LIST_HELP)?;
     list.arg(rows)?.arg(cols)
 }
 
 /// The word `degrees`.
 pub fn degrees_command<'a>(alloc: Global) -> Result<Command<'a>, AllocError> {
-    let degrees = word(alloc, "degrees", DEGREES_ABOUT, DEGREES_HELP)?;
+    let degrees = snapshots_command(alloc, "degrees", DEGREES_ABOUT, DEGREES_HELP)?;
     with_side(alloc, degrees)
 }
 
