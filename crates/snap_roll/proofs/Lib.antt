@@ -1,1 +1,2 @@
 pub mod HasLemmas
+pub mod RollLemmas
