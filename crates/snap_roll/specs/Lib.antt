@@ -1,2 +1,3 @@
 pub mod Has
 pub mod Rolls
+pub mod Held
