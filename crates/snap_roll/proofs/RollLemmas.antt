@@ -7,9 +7,12 @@ use Rattle.std.proofs.lemmas.List.{length-append}
 use Rattle.std.proofs.lemmas.Option.{slice_get_within}
 use Rattle.std.specs.List.{AllByRecursion}
 use Rattle.hyper_matrix.specs.Counts.{Counts, ewise_add, total}
-use Rattle.hyper_matrix.proofs.CountLaws.{ewise_add-empty, ewise_add_assoc, total-ewise_add}
+use Rattle.std.specs.FinMap.{empty}
+use Rattle.hyper_matrix.proofs.CountLaws.{ewise_add-empty, ewise_add_assoc, total-empty, total-ewise_add}
 use Rattle.batch_store.specs.declared.verdict.Entry.{Entry}
-use Rattle.batch_store.specs.Accepted.{Accepted, IsBase, accepted, count_in, entries_in, folded_into, summed, total_in}
+use Rattle.batch_store.specs.Accepted.{Accepted, IsBase, accepted, count_in, entries_in, folded_into, list_sum, summed}
+use Rattle.batch_store.specs.Accepted.{total_in}
+use Rattle.batch_store.specs.Batches.{Submission, entries_of}
 use Rattle.batch_store.specs.Books.{AreAccepted, accepted_in}
 use Rattle.batch_store.specs.Setups.{Setting}
 use Rattle.batch_store.specs.Verdicts.{same_pair, total_of_entries}
@@ -32,9 +35,10 @@ summed-with_sum a e sum = ewise_add-empty (ewise_add (summed a) sum)
 -- of a list, all of whose batches are folded
 pub with_sum_is : (a : Accepted) (e : Entry) (sum : Counts) → a.list ≡ [] →
     accepted (ewise_add a.base sum) (a.folded ++ e ∷ []) [] ≡ with_sum a e sum
-with_sum_is (record { base = base; folded = folded; list = [] }) e sum none =
-    λ i. accepted (ewise_add (sym (ewise_add-empty base) i) sum) (sym (append-nil folded) i ++ e ∷ []) []
-with_sum_is (record { base = base; folded = folded; list = b ∷ bs }) e sum none = cc
+with_sum_is a e sum none =
+    (λ i. accepted (ewise_add (sym (ewise_add-empty a.base) i) sum) (sym (append-nil a.folded) i ++ e ∷ []) [])
+    ∙ ap (λ (l : List Submission). accepted (ewise_add (ewise_add a.base (list_sum l)) sum)
+    ((a.folded ++ entries_of l) ++ e ∷ []) []) (sym none)
 
 -- ---- a list is accepted
 
@@ -67,7 +71,7 @@ all_new c n e (x ∷ es) client number none = (
         let p = and_parts (eqb x.client e.client) (eqb x.number e.number) is in
         absurd (none 0 x refl (eqb-true x.client e.client p.0 ∙ client) (eqb-true x.number e.number p.1 ∙ number))
 
-found_at : (i : ℕ) (e : Entry) → Found
+abbrev found_at : ℕ → Entry → Found
 found_at i e = record { index = i; entry = e }
 
 new_entry : (a : Accepted) (e : Entry) → (HasNumber a e.client e.number → ⊥) →
@@ -191,10 +195,16 @@ taken_sums c a (w ∷ ws) b (next, inr more, rest) =
 -- ---- of a list, all of whose batches are folded
 
 pub base_total : (t : Setting) (a : Accepted) → AreAccepted t a → a.list ≡ [] → total a.base ≡ total_in a
-base_total t (record { base = base; folded = folded; list = [] }) h none =
-    h.based.adds_up ∙ ap total_of_entries (sym (append-nil folded))
-base_total t (record { base = base; folded = folded; list = b ∷ bs }) h none = cc
+base_total t a h none = h.based.adds_up ∙ ap total_of_entries (sym (append-nil a.folded))
+    ∙ ap (λ (l : List Submission). total_of_entries (a.folded ++ entries_of l)) (sym none)
 
 pub folded_count : (a : Accepted) → a.list ≡ [] → length a.folded ≡ count_in a
-folded_count (record { base = base; folded = folded; list = [] }) none = ap length (sym (append-nil folded))
-folded_count (record { base = base; folded = folded; list = b ∷ bs }) none = cc
+folded_count a none = ap length (sym (append-nil a.folded))
+    ∙ ap (λ (l : List Submission). length (a.folded ++ entries_of l)) (sym none)
+
+-- nothing is a base of nothing
+pub nothing_based : (base : Counts) (es : List Entry) → base ≡ empty → es ≡ [] → IsBase base es
+nothing_based base es is none = record {
+  adds_up = ap total is ∙ total-empty ∙ ap total_of_entries (sym none);
+  none = λ h. is;
+}

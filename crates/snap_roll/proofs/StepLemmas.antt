@@ -4,22 +4,70 @@ use Rattle.std.proofs.Common.{Result, slice_get, inl, inr, refl, sym, ◌∙◌,
 use Rattle.std.proofs.lemmas.List.{take_more, length-append}
 use Rattle.std.proofs.lemmas.Option.{slice_get-get_or}
 use Rattle.batch_store.specs.Accepted.{Accepted, count_in, entries_in, summed}
-use Rattle.batch_store.specs.Books.{accepted_in}
+use Rattle.batch_store.specs.Books.{Listing, accepted_in}
+use Rattle.batch_store.specs.declared.verdict.Entry.{Entry}
+use Rattle.hyper_matrix.specs.Counts.{Counts}
+use Rattle.hyper_matrix.specs.Matrix.{Matrix, matrix}
+use Rattle.snap_file.specs.Origins.{own}
+use Rattle.snap_file.specs.declared.origin.Identity.{Identity}
 use Rattle.batch_store.specs.Setups.{Setting}
 use Rattle.batch_store.proofs.SumLaws.{entries-folded}
-use Rattle.snap_file.specs.Snapshots.{Saved}
+use Rattle.snap_file.specs.Snapshots.{Saved, saved}
 use Rattle.snap_file.specs.declared.fault.FileFault.{FileFault}
 use Rattle.snap_file.specs.declared.origin.Origin.{Origin}
 use Rattle.snap_report.specs.Kept.{HasLoaded, folded_in}
 use Rattle.snap_roll.specs.Held.{IsOf, Reads, roll_of}
 use Rattle.snap_roll.specs.Rolls.{AreTakenIn, Begins, HaveRolled, IsRefused, Refuses, Roll, Takes, TellsAdded, TellsWindows}
 use Rattle.snap_roll.specs.Rolls.{Window, begun_roll, entry_of_window, first_setup, sum_of_window, window_of, IsNoRefusal}
+use Rattle.snap_roll.specs.Rolls.{IsAddedTo, MayGo, RefusesEntry, RefusesTo, TellsTo, Untakes, UntakesEntry, book_in}
+use Rattle.snap_roll.specs.Rolls.{entry_of_sum, roll}
 use Rattle.snap_roll.specs.Steps.{GoesOn}
+use Rattle.snap_roll.specs.declared.roll_fault.Untaken.{Untaken}
+use Rattle.snap_roll.specs.declared.roll_fault.Untaken.TheVariants as untaken
 use Rattle.snap_roll.specs.declared.roll.Read.{Read}
 use Rattle.snap_roll.specs.declared.roll_fault.RollFault.{RollFault}
 use Rattle.snap_roll.specs.declared.roll_fault.RollFault.TheVariants as fault
 use Rattle.snap_roll.specs.declared.rolling.Rolling.{Rolling}
 use Rattle.snap_roll.proofs.RollLemmas.{added_grows}
+
+-- a window's file was taken in
+pub takes_of : (c : ℕ) (t : Setting) (g : Option ℕ) (o : Origin) (s : Setting) (l : Listing) (x : Saved)
+    (i j f : Identity) (a b : Accepted) (n : ℕ) (e : Entry) (m : Matrix) → saved o s l ≡ x → MayGo g o s i t n →
+    f ≡ book_in o.identity → j ≡ own i f i → m ≡ matrix s.rows s.cols (summed (accepted_in l)) →
+    e ≡ entry_of_sum c n m.counts → IsAddedTo a e m.counts b → Takes c t g (window_of n x) (roll i a) (roll j b)
+takes_of c t g o s l x i j f a b n e m is may found next sum entry added =
+    let counts : m.counts ≡ summed (accepted_in l) = ap (λ (y : Matrix). y.counts) sum in
+    let both : e ≡ entry_of_sum c n (summed (accepted_in l)) = entry ∙ ap (entry_of_sum c n) counts in
+    subst (λ (y : Saved). Takes c t g (window_of n y) (roll i a) (roll j b)) is (record {
+      may = may;
+      book = next ∙ ap (λ (k : Identity). own i k i) found;
+      taken = subst (λ (d : Entry). IsAddedTo a d (summed (accepted_in l)) b) both
+          (subst (λ (k : Counts). IsAddedTo a e k b) counts added);
+    })
+
+-- or it wasn't
+pub untakes_of : (c : ℕ) (t : Setting) (g : Option ℕ) (o : Origin) (s : Setting) (l : Listing) (x : Saved)
+    (i : Identity) (a : Accepted) (n : ℕ) (e : Entry) (m : Matrix) (told : Untaken) → saved o s l ≡ x →
+    MayGo g o s i t n → m ≡ matrix s.rows s.cols (summed (accepted_in l)) → e ≡ entry_of_sum c n m.counts →
+    UntakesEntry t a e told → Untakes c t g x (roll i a) told
+untakes_of c t g o s l x i a n e m (untaken.Refused why) is may sum entry h =
+    let both : e ≡ entry_of_sum c n (summed (accepted_in l)) =
+    entry ∙ ap (λ (y : Matrix). entry_of_sum c n y.counts) sum in
+    subst (λ (y : Saved). Refuses c t g y (roll i a) why) is
+    (inr (n, may, subst (λ (d : Entry). RefusesEntry t a d why) both h))
+untakes_of c t g o s l x i a n e m untaken.Memory is may sum entry h = tt
+
+-- what a coarser file is refused for
+pub to_told : {F : Type 0} (loads : F → ℕ → Result Saved FileFault → F → Type 0) (s t : F) (x : Saved) (told : RollFault) →
+    HasLoaded loads s t x → RefusesTo x told → TellsTo loads s t told
+to_told loads s t x fault.ToHasWindow loaded h = (x, loaded, h)
+to_told loads s t x fault.ToNotClosed loaded h = (x, loaded, h)
+to_told loads s t x (fault.To why) loaded h = absurd h
+to_told loads s t x (fault.File i why) loaded h = absurd h
+to_told loads s t x (fault.Refused i why) loaded h = absurd h
+to_told loads s t x fault.Memory loaded h = absurd h
+to_told loads s t x (fault.Save why) loaded h = absurd h
+to_told loads s t x (fault.Output why) loaded h = absurd h
 
 first_more : (ws : List Window) (w : Window) (f : Setting) → ((s : Setting) → first_setup ws s ≡ f) → (s : Setting) →
     first_setup (ws ++ w ∷ []) s ≡ f
@@ -35,8 +83,7 @@ module _ {S : Type 0} (reads : S → ℕ → Result Saved FileFault → S → Ty
     next,
     subst (λ (y : S). HasLoaded reads y v w.saved) (sym is.0) loaded,
     subst (λ (y : Roll). Takes c t g w y next) (sym is.1) takes,
-    refl,
-    refl,
+    (refl, refl),
   )
   rolled_more t (h ∷ hs) (x ∷ xs) u r m v q next g w before loaded takes = (
     before.0,
@@ -84,7 +131,7 @@ module _ {S : Type 0} (reads : S → ℕ → Result Saved FileFault → S → Ty
           grows = omega (arith, had_is, takes_grows r.setup g (window_of n x) (roll_of r) (roll_of next) takes);
           rolled = subst (λ hs. HaveRolled reads c begun.setup hs (window_of n x ∷ []) u (begun_roll begun) v (roll_of next))
               (ap (λ h. h ∷ []) given ∙ sym (take_more gs 0 g some))
-              (v, roll_of next, loaded, state, refl, refl);
+              (v, roll_of next, loaded, state, (refl, refl));
         }
 
     -- one more
