@@ -11,7 +11,7 @@ use std::sync::Arc;
 /// was sealed until that is settled, so a fold that found no memory goes on where it stopped.
 ///
 /// Contracts see up to which place of the book all batches are sealed, if any are, and how many sums are left to be made.
-/// While it has sealed something it keeps the layers of that moment and the batches from being freed.
+/// While it has sealed something it keeps what was handed down and the batches from being freed.
 ///
 /// Where it is dropped before what it has sealed is settled, nothing is lost, and the engine folds no more: nor does one
 /// that is opened with what this one was closed to, before that was folded itself (`PlainEngine::fold`).
