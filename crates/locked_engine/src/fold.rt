@@ -7,7 +7,9 @@ ghost use Rattle.locked_engine.specs.Folders.{nothing_sealed, IsMade};
 
 use crate::engine::Engine;
 use crate::folder::Folder;
+use crate::locked_shard::LockedShard;
 use crate::names::Named;
+use crate::shard_version::ShardVersion;
 use batch_store::{BookFold, ReleasedBatches, ReleasedRecord, ShardFold};
 use std::alloc::{AllocError, Global};
 use std::sync::atomic::Ordering;
@@ -29,6 +31,13 @@ pub struct Backlog {
 pub struct SealedBook {
     pub place: u64,
     pub fold: Arc<BookFold>,
+}
+
+// What a shard and its readers let go of: to be dropped when no lock is held.
+#[derive(Drop)]
+struct ReleasedShard<N: Named> {
+    record: Option<ReleasedRecord>,
+    version: Option<Arc<ShardVersion<N>>>,
 }
 
 impl<N: Named, H: Ledger> Engine<N, H> {
@@ -120,8 +129,10 @@ impl<N: Named, H: Ledger> Engine<N, H> {
 
     /// Puts what was made in place of what it was made of, where the folder has sealed something and all sums are made
     /// (`Folder::is_made`); else nothing is done. Each lock is taken once more, one after the other, and pointers are
-    /// exchanged under it, which takes no memory and can't be refused. What is let go of is freed when no lock is held.
-    /// Puts and readers go on meanwhile, and are answered as before. With a log all that was sealed is durable before.
+    /// exchanged under it, which takes no memory and can't be refused. Readers are shown each shard with its new base, so
+    /// that they don't keep the old one; where that finds no memory they are shown it by the next put. What is let go of
+    /// is freed when no lock is held. Puts and readers go on meanwhile, and are answered as before. With a log all that
+    /// was sealed is durable before.
     pub fn settle_fold<R: Wait>(&self, rt: &R, alloc: Global, folder: &mut Folder) -> bool
         requires durable { is_some N.log ≡ true → (place : ℕ) → folder.old.place ≡ Some place →
             (entries : List Entry) × N.synced entries × (place ≤ length entries) }
@@ -182,20 +193,39 @@ impl<N: Named, H: Ledger> Engine<N, H> {
         sealed
     }
 
-    // Settles shard s under its lock.
+    // Settles shard s under its lock, and shows readers the shard with its new base.
     fn settle_shard<R: Wait>(
         &self,
         rt: &R,
         alloc: Global,
         folder: &Folder,
         s: u64,
-    ) -> Option<ReleasedRecord>
+    ) -> ReleasedShard<N>
         requires { s < N.setup.shards }
     {
         let mut guard = self.shards[s as usize].lock(rt);
-        let released = guard.settle_fold(alloc, folder);
+        let record = guard.settle_fold(alloc, folder);
+        let version = match &record {
+            Some(_) => self.show_anew(rt, alloc, s, &guard),
+            None => None,
+        };
         let _ = MutexGuard::unlock(guard);
-        released
+        ReleasedShard { record, version }
+    }
+
+    // Shows readers shard s as it is, whose lock the caller holds. It gives what they were shown before; None where there
+    // was no memory, so that they see that until the next put.
+    fn show_anew<R: Wait>(
+        &self,
+        rt: &R,
+        alloc: Global,
+        s: u64,
+        locked: &LockedShard<N, H>,
+    ) -> Option<Arc<ShardVersion<N>>>
+        requires { s < N.setup.shards }
+    {
+        let version = locked.version(alloc, s)?;
+        Some(self.show(rt, s, version))
     }
 
     // Settles the book under its lock.

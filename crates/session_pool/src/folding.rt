@@ -22,14 +22,11 @@ pub(crate) struct Folding {
     folder: Mutex<Option<Folder>>,
 }
 
-// Settles what was sealed up to a place and summed up. With a log all of that is made durable first.
-fn settle<N: Named, H: Ledger, L: Log, R: Wait>(
+// Makes all that was sealed up to a place durable, where there is a log.
+fn make_durable<N: Named, H: Ledger, L: Log, R: Wait>(
     rt: &R,
-    alloc: Global,
     engine: &Engine<N, H>,
-    saver: &Saver,
     log: &mut Option<SessionLog<'_, N, L>>,
-    folder: &mut Folder,
     place: u64,
 ) -> Result<(), FoldRefusal>
     requires logged { is_some log.old ≡ is_some N.log }
@@ -39,20 +36,14 @@ fn settle<N: Named, H: Ledger, L: Log, R: Wait>(
     ensures failed { result ≡ Err FoldRefusal.LogFailed → IsLogged log.new × L.has_failed }
     ensures differ { result ≡ Err FoldRefusal.RecordsDiffer → IsLogged log.new }
 {
-    if let Some(log) = log {
-        if let Err(refusal) = log.reach(rt, engine, place) {
-            return Err(refusal);
-        }
-    }
-    let desk = log.as_ref().map(|log| log.desk());
-    if saver.settle_fold(rt, alloc, engine, desk, folder) || log.is_none() {
-        Ok(())
-    } else {
-        Err(FoldRefusal::RecordsDiffer)
+    match log {
+        Some(log) => log.reach(rt, engine, place),
+        None => Ok(()),
     }
 }
 
-// Folds what the folder has sealed, or, where that is nothing, what was accepted by now.
+// Folds what the folder has sealed, or, where that is nothing, what was accepted by now. With a log all of it is durable
+// before the first sum is made, so that no sum waits in memory for a disk.
 fn fold_once<N: Named, H: Ledger, L: Log, R: Wait>(
     rt: &R,
     alloc: Global,
@@ -73,10 +64,18 @@ fn fold_once<N: Named, H: Ledger, L: Log, R: Wait>(
     let Some(place) = begun else {
         return Ok(());
     };
+    if let Err(refusal) = make_durable(rt, engine, log, place) {
+        return Err(refusal);
+    }
     if folder.run(alloc).is_err() {
         return Err(FoldRefusal::Memory);
     }
-    settle(rt, alloc, engine, saver, log, folder, place)
+    let desk = log.as_ref().map(|log| log.desk());
+    if saver.settle_fold(rt, alloc, engine, desk, folder) || log.is_none() {
+        Ok(())
+    } else {
+        Err(FoldRefusal::RecordsDiffer)
+    }
 }
 
 impl Folding {
@@ -162,8 +161,8 @@ impl Folding {
         fold_once(rt, alloc, engine, saver, log, folder)
     }
 
-    /// Folds where a fold is due, or goes on with what was sealed before and couldn't be folded. Where memory is refused,
-    /// or the log hasn't got yet what was sealed, that stays sealed for the next call.
+    /// Folds where a fold is due, or goes on with what was sealed before and couldn't be folded. With a log it waits until
+    /// that is durable. Where memory is refused, or the log has failed, it stays sealed for the next call.
     pub(crate) fn fold_due<N: Named, H: Ledger, L: Log, R: Wait>(
         &self,
         rt: &R,
@@ -181,11 +180,10 @@ impl Folding {
         if folder.place().is_none() && !self.is_due(engine.backlog(rt)) {
             return;
         }
-        let Ok(Some(_)) = engine.begin_fold(rt, alloc, folder) else {
-            return;
-        };
-        if folder.run(alloc).is_ok() {
-            let _ = saver.settle_fold(rt, alloc, engine, desk, folder);
+        let mut log = desk.map(|desk| SessionLog::new(desk, desk.known(rt)));
+        let _ = fold_once(rt, alloc, engine, saver, &mut log, folder);
+        if let Some(log) = log {
+            log.end(rt);
         }
     }
 }
