@@ -167,6 +167,24 @@ def silent_clients_are_let_go(unix):
     os.remove(path)
 
 
+def silent_clients_wait_together(unix):
+    """The idle limit counts while a connection waits for a worker: many silent ones hold up the next for one limit."""
+    for words in [[], ["--drain", "60"]]:
+        with Server([*SMALL, "--workers", "1", "--idle", "1", *words], tcp=not unix, unix=unix) as at:
+            begun = time.monotonic()
+            silent = [at.link(unix) for _ in range(40)]
+            with at.link(unix) as link:
+                check("behind silent ones", asked(link, STATUS, 21), counts(0, 0))
+                took = time.monotonic() - begun
+                check(f"behind silent ones: after one limit, {took:.1f} s", 0.9 < took < 3, True)
+                time.sleep(0.5)
+                check("who sends goes on", asked(link, STATUS, 21), counts(0, 0))
+                check("stop", asked(link, STOP, 5), STOPPING)
+            for other in silent:
+                other.close()
+            at.ends("silent ones that wait", 0, 0)
+
+
 def a_client_that_reads_nothing_is_let_go(unix):
     """With an idle limit, a client that takes no replies doesn't keep the one worker."""
     with Server([*SMALL, "--workers", "1", "--idle", "1"], tcp=not unix, unix=unix) as at:
@@ -386,7 +404,8 @@ def of_file(path):
 
 def saves_at_once_are_few():
     """Of clients that ask for a save at the same time, and nothing is put meanwhile, those that waited for one get its
-    answer. A save that waits for none writes, also where nothing was put, and where the file was removed."""
+    answer. A save that waits for none writes, also where nothing was put, and where the file was removed. The end
+    writes nothing where the last save has all."""
     name, path, saved = "saves at once", in_folder("at once.snap"), struct.pack(">IBQ", 8, 0x86, 1)
     words = ["--rows", "500000", "--cols", "1", "--workers", "17", "--snapshot", path]
     with Server(words, tcp=False) as at:
@@ -410,10 +429,12 @@ def saves_at_once_are_few():
         with at.client(8) as hhm:
             hhm.put(1, [(0, 0, 5)])
         check(f"{name}: a put is saved", asked(links[1], SAVE, 13), struct.pack(">IBQ", 8, 0x86, 2))
+        left = of_file(path)
         check(f"{name}: stop", asked(links[0], STOP, 5), STOPPING)
         for link in links:
             link.close()
         at.ends(name, 2, 500_005)
+    check(f"{name}: the end", of_file(path), left)
 
 
 class Book:
@@ -489,6 +510,7 @@ def all_are_tried():
         replies_outlive_a_bad_header(unix)
         a_rude_client_holds_no_worker(unix)
         silent_clients_are_let_go(unix)
+        silent_clients_wait_together(unix)
         a_client_that_reads_nothing_is_let_go(unix)
         for idle in [True, False]:
             deaf_clients_on_all_workers(unix, idle)
