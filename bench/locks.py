@@ -88,7 +88,7 @@ def main():
     parser.add_argument("--batches", default="1000 100000")
     parser.add_argument("--stream", default="powerlaw")
     parser.add_argument("--connections", type=int, default=2)
-    parser.add_argument("--fold-above", default="4194304")
+    parser.add_argument("--fold-above", default="1048576")
     arguments = parser.parse_args()
     names = symbols(arguments.hhm)
     if len(names) < len(CALLS):

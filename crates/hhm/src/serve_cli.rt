@@ -202,7 +202,7 @@ static OPTIONS: &[ServeOption] = &[
     ServeOption {
         name: "fold-above",
         value: "CELLS",
-        default: Some("4194304"),
+        default: Some("1048576"),
         help: "Add up what was accepted once batches have so many cells more; 0: never",
         ..LEFT_OUT
     },
