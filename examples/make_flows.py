@@ -7,6 +7,7 @@ A few hosts are in most flows and most hosts in few, as in real traffic: half of
 others lie anywhere.
 """
 import random
+import signal
 import sys
 
 
@@ -39,4 +40,6 @@ def main():
 
 
 if __name__ == "__main__":
+    # (where `head` reads it, it ends as soon as that has gone)
+    signal.signal(signal.SIGPIPE, signal.SIG_DFL)
     main()

@@ -463,7 +463,8 @@ def answers_have_forms():
 
 
 def a_reader_that_has_gone():
-    """Where nobody reads what a word writes, SIGPIPE ends it, and no fault is shown: answers, helps and the version."""
+    """Where nobody reads what a word writes, SIGPIPE ends it, and no fault is shown: answers, helps, the version, and the
+    lines of other programs."""
     reading, writing = os.pipe()
     os.close(reading)
     with Server(["--rows", "3", "--cols", "3"], tcp=False) as at:
@@ -472,6 +473,22 @@ def a_reader_that_has_gone():
                 ended = subprocess.run([*PLAIN, *words], stdout=writing, stderr=subprocess.PIPE, timeout=WAIT,
                                        env={**os.environ, "PYTHONUNBUFFERED": buffers})
                 check(f"nobody reads: {words[-2:]}", (ended.returncode, ended.stderr), (-signal.SIGPIPE, b""))
+    path, log = (os.path.join(server.FOLDER, f"read.{it}") for it in ("snap", "connections"))
+    with open(log, "w") as file:
+        file.write("a b\n")
+    program = ["--program", server.PROGRAM]
+    with Server([*LARGE, "--snapshot", path], tcp=False) as at:
+        with at.client(1) as hhm:
+            hhm.put(1, [(0, 0, 5)])
+            hhm.save()
+        unix = f"unix:{at.path}"
+        for words in [["count_log.py", "--unix", at.path, "--client", "2", log],
+                      ["hhm_mirror.py", path, path, unix, *program],
+                      ["hhm_relay.py", "-", path, os.path.join(server.FOLDER, "spool"), unix, "3", *program],
+                      ["../../examples/make_flows.py", "100000"]]:
+            ended = subprocess.run([sys.executable, os.path.join(PYTHON, words[0]), *words[1:]], stdout=writing,
+                                   stderr=subprocess.PIPE, timeout=WAIT)
+            check(f"nobody reads: {words[0]}", (ended.returncode, ended.stderr), (-signal.SIGPIPE, b""))
     os.close(writing)
 
 

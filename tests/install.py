@@ -9,6 +9,7 @@ each check that fails and at the end `N passed, M failed`; the status is 1 where
 the C client isn't tried, where there is no groff the page isn't formatted, and a line says so. Linux, and nothing but
 Python's own library.
 """
+import contextlib
 import os
 import re
 import resource
@@ -267,11 +268,12 @@ def server_of(wrapper):
 class Served:
     """A server that the installed `hhm-run` has started, at a Unix socket."""
 
-    def __init__(self, prefix, words, error=subprocess.PIPE, **how):
+    def __init__(self, prefix, words, error=subprocess.PIPE, setup=SMALL, **how):
         self.path = os.path.join(server.FOLDER, "socket")
-        words = [f"{prefix}/bin/hhm-run", f"--unix={self.path}", *SMALL, *words]
+        words = [f"{prefix}/bin/hhm-run", f"--unix={self.path}", *setup, *words]
+        how = {"preexec_fn": heed_signals, **how}
         self.process = subprocess.Popen(words, stdout=subprocess.PIPE, stderr=error, text=True,
-                                        start_new_session=True, preexec_fn=heed_signals, **how)
+                                        start_new_session=True, **how)
 
     def __enter__(self):
         return self
@@ -548,6 +550,39 @@ def a_limit_of_a_file_refuses_puts(prefix):
     os.remove(log)
 
 
+def in_a_small_space():
+    heed_signals()
+    resource.setrlimit(resource.RLIMIT_AS, (170 << 20, 170 << 20))
+
+
+def a_limit_of_memory_is_enough_for_a_start(prefix):
+    """In an address space of 170 MiB a server takes 8,000 batches, is killed, and starts again with all of them."""
+    paths = [os.path.join(server.FOLDER, f"space.{it}") for it in ("snap", "hhmlog")]
+    words = ["--snapshot", paths[0], "--log", paths[1], "--workers", "8"]
+    how = {"setup": ["--rows", str(1 << 32), "--cols", str(1 << 32)], "preexec_fn": in_a_small_space}
+    with Served(prefix, words, **how).listens() as at:
+        given = content(f"/proc/{server_of(at.process.pid)}/environ").split(b"\0")
+        check("a small space: arenas", [it for it in given if it.startswith(b"MALLOC_")], [b"MALLOC_ARENA_MAX=1"])
+        with server.Client(unix=at.path, client=1, attempts=1) as hhm:
+            taken = 0
+            with contextlib.suppress(server.Refused):
+                for taken, _ in hhm.put_all(((number, [(number, number, 1)]) for number in range(1, 8_001)), 128):
+                    pass
+        check("a small space: batches", taken, 8_000)
+        os.kill(server_of(at.process.pid), signal.SIGKILL)
+        at.ends("a small space: a kill", "", "", 128 + signal.SIGKILL)
+    with Served(prefix, words, **how).listens() as at:
+        with server.Client(unix=at.path) as hhm:
+            check("a small space: after a start", hhm.status(), (8_000, 8_000))
+        at.is_told_to_end()
+        at.ends("a small space: the end", "stopped batches 8000 total 8000\n", "", 0)
+    for path in paths:
+        os.remove(path)
+    with Served(prefix, [], env={**os.environ, "MALLOC_ARENA_MAX": "4"}).listens() as at:
+        told = b"MALLOC_ARENA_MAX=4" in content(f"/proc/{server_of(at.process.pid)}/environ").split(b"\0")
+        check("arenas that are given", told, True)
+
+
 def a_log_of_an_earlier_installation_goes_on(prefix):
     """A unit that named sum.log is installed anew and names sum.hhmlog: what was accepted after the last save is there."""
     snap, earlier, log = (os.path.join(server.FOLDER, f"before.{it}") for it in ("snap", "log", "hhmlog"))
@@ -642,6 +677,7 @@ def main():
         a_refused_stop_is_asked_for_again(prefix)
         a_python_that_fails_is_said(prefix)
         a_limit_of_a_file_refuses_puts(prefix)
+        a_limit_of_memory_is_enough_for_a_start(prefix)
         a_log_of_an_earlier_installation_goes_on(prefix)
         statuses_are_those_of_the_program(prefix)
     the_repository_is_in_order()

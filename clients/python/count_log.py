@@ -31,7 +31,7 @@ from collections import Counter, deque
 
 sys.path.insert(0, os.path.dirname(os.path.abspath(__file__)))
 from hhm_client import BookWentBack, Client, Refused, address, number
-from hhm_command import Once
+from hhm_command import Once, show
 
 LINES = 10_000
 # Of how many addresses the numbers are kept.
@@ -203,7 +203,8 @@ def main():
         print(f"failed: {fault}", file=sys.stderr)
         status = 4
     sent = f"sent batches {feed.batches} total {feed.total}"
-    print(f"{sent} skipped lines {feed.skipped} left lines {feed.left}" if status == 0 else sent)
+    more = f" skipped lines {feed.skipped} left lines {feed.left}" if status == 0 else ""
+    show(f"{sent}{more}\n".encode())
     return status
 
 

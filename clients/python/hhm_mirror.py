@@ -167,6 +167,8 @@ def judge_book(hhm: Client, snapshot: Snapshot, path: str) -> None:
 
 
 def mirror(given: argparse.Namespace) -> int:
+    from hhm_command import show  # (the class needs no command line)
+
     a, b = checked(given.program, given.a), checked(given.program, given.b)
     if (a.rows, a.cols) != (b.rows, b.cols):
         raise ValueError("the snapshots have different numbers of rows and columns")
@@ -179,10 +181,11 @@ def mirror(given: argparse.Namespace) -> int:
         put = len(found.lacks) - len(refused)
         lines = lines + refused
     for line in lines:
-        print(line)
+        show(f"{line}\n".encode())
     if found.is_folded:
         print("nothing was put: A has folded what B lacks, so B must begin from a copy of A's file", file=sys.stderr)
-    print(f"batches {len(a.batches)} lacked {len(found.lacks)} put {put} not compared {found.uncompared}")
+    last = f"batches {len(a.batches)} lacked {len(found.lacks)} put {put} not compared {found.uncompared}"
+    show(f"{last}\n".encode())
     return 1 if lines else 0
 
 

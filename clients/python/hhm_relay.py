@@ -36,6 +36,7 @@ from typing import Dict, Iterator, List, Optional, Tuple
 
 sys.path.insert(0, os.path.dirname(os.path.abspath(__file__)))
 from hhm_client import PUT_CELLS, BookWentBack, Client, Ended, Refused, number, request  # noqa: E402
+from hhm_command import show  # noqa: E402
 from hhm_mirror import checked, client_of  # noqa: E402
 from hhm_snapshot import Batch, Snapshot  # noqa: E402
 
@@ -213,7 +214,7 @@ def ship(spool: Spool, root: Client, size: int) -> None:
     for told, frames in steps(spool, root.client, size):
         for _ in root._put_frames(iter(frames), 4):
             pass
-        print(told, flush=True)
+        show(f"{told}\n".encode())
 
 
 def relay(given: argparse.Namespace) -> int:
