@@ -1,1 +1,3 @@
 pub mod HasLemmas
+pub mod RollLemmas
+pub mod StepLemmas
