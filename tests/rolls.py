@@ -1,12 +1,13 @@
 #!/usr/bin/env python3
 """Runs `hhm roll` of the built program on snapshots of windows, and compares what it leaves.
 
-    python3 tests/rolls.py PATH-TO-HHM
+    python3 tests/rolls.py PATH-TO-HHM [TURNS]
 
-A coarser file has each window once, however often and in what parts it is rolled. The bytes that are wanted are written
-by snap_bytes.py from docs/FORMATS.md, and sums are added up in a dictionary. Kills and failures at each call come from
-lose_power.c and disks.py. It prints a line for each check that fails and at the end `N passed, M failed`; the status is
-1 where one fails. Linux, Python's own library and the toolchain of Rattle.
+A coarser file has each window once, however often and in what parts it is rolled. Windows are drawn in 60 turns, or in
+TURNS. The bytes that are wanted are written by snap_bytes.py from docs/FORMATS.md, and sums are added up in a
+dictionary. Kills and failures at each call come from lose_power.c and disks.py. It prints a line for each check that
+fails and at the end `N passed, M failed`; the status is 1 where one fails. Linux, Python's own library and the
+toolchain of Rattle.
 """
 import fcntl
 import os
@@ -280,7 +281,7 @@ def drawn_ones_are_rolled():
     """Windows in any order, in any parts and with repeats, half of them folded in part: the sum of each once."""
     dice = random.Random(57)
     setup = {"rows": SIZE, "cols": SIZE, "limit": MOST, "most": 1000}
-    for turn in range(60):
+    for turn in range(int(sys.argv[2]) if len(sys.argv) > 2 else 60):
         numbers = dice.sample(range(1000), dice.randrange(1, 9))
         drawn = {number: drawn_window(dice, SIZE) for number in numbers}
         held = {
