@@ -20,7 +20,7 @@ import sys
 import server
 from disks import DIE_BEFORE, FAIL, WRITES
 from identity import Broken, Room
-from refused import library_of
+from refused import EIO, Refusing, build_library, library_of
 from server import check, content
 from server_faults import in_folder, write
 from server_log import CLOSED, hhm, run_each
@@ -342,6 +342,36 @@ def each_call_of_a_roll_may_be_the_last():
                 check(f"{at}: no other file", names, ["snap"])
 
 
+def a_refused_call_leaves_the_old_file():
+    """A roll each of whose growths, reads and writes is refused in turn does all, or tells it and leaves the old file."""
+    build_library(server.FOLDER)
+    old, wanted = rolled([(4, [FIVE])]), rolled([(4, [FIVE]), (5, [FIVE]), (6, [THREE])])
+    files = Windows("refused calls", old, **both())
+    words = [files.path(name) for name in NAMES]
+    reads = {f"snapshot: Read in {path}" for path in (files.to, *words)}
+    for kind, error, faults in [
+        ("growth", 0, {"memory"}),
+        ("fault", EIO, {*reads, "file: Write", "file: Sync", "file: Rename", "output failed after 0 bytes"}),
+    ]:
+        at, met, told = 1, True, set()
+        while met and at < 2_000:
+            write(files.to, old)
+            refusing = Refusing(kind, error, at)
+            output, fault, status = hhm("roll", files.to, "9", *words, **refusing.how)
+            met = refusing.was_met()
+            line, found = fault[5:-1], files.held()
+            if status == 0:
+                check(f"refused {kind} {at}", (output, fault, found), ("rolled 2 batches 3 total 13\n", "", wanted))
+            else:
+                told.add(line)
+                # Once the name is the new file's, the folder's sync may fail.
+                left = {"file: Rename": (old, wanted), "output failed after 0 bytes": (wanted,)}.get(line, (old,))
+                check(f"refused {kind} {at}: {fault}", (output, found in left), ("", True))
+            at += 1
+        check(f"refused {kind}: each is told", told, faults)
+        check(f"refused {kind}: the last run", status, 0)
+
+
 def a_full_disk_leaves_the_old_file():
     """A file system without room, where one may be mounted: the old file stays, and with room the roll is done."""
     files = Windows("full", rolled([(4, [FIVE])]), **both())
@@ -380,6 +410,7 @@ def all_are_tried():
         an_output_may_fail,
         drawn_ones_are_rolled,
         each_call_of_a_roll_may_be_the_last,
+        a_refused_call_leaves_the_old_file,
         a_full_disk_leaves_the_old_file,
     )
 
