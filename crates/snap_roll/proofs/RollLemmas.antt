@@ -1,6 +1,6 @@
 -- What windows that are taken in do to a list.
-use Rattle.std.proofs.Common.{◌≡◌, ◌⊎◌, ℕ, zero, suc, ◌+◌, ◌<◌, ◌≤◌, List, [], ◌∷◌, ◌++◌, length, take, map, Bool, true}
-use Rattle.std.proofs.Common.{false, slice_get, Option, Some, None, inl, inr, refl, sym, ◌∙◌, ap, subst, arith}
+use Rattle.std.proofs.Common.{◌≡◌, ℕ, suc, ◌≤◌, List, [], ◌∷◌, ◌++◌, length, map, Bool, true}
+use Rattle.std.proofs.Common.{false, slice_get, Some, inl, inr, refl, sym, ◌∙◌, ap, subst, arith}
 use Rattle.std.proofs.Common.{append_assoc, append-nil, eqb}
 use Rattle.std.proofs.lemmas.Bool.{and_parts, eqb-true}
 use Rattle.std.proofs.lemmas.List.{length-append}
@@ -13,14 +13,13 @@ use Rattle.batch_store.specs.declared.verdict.Entry.{Entry}
 use Rattle.batch_store.specs.Accepted.{Accepted, IsBase, accepted, count_in, entries_in, folded_into, list_sum, summed}
 use Rattle.batch_store.specs.Accepted.{total_in}
 use Rattle.batch_store.specs.Batches.{Submission, entries_of}
-use Rattle.batch_store.specs.Books.{AreAccepted, accepted_in}
+use Rattle.batch_store.specs.Books.{AreAccepted}
 use Rattle.batch_store.specs.Setups.{Setting}
 use Rattle.batch_store.specs.Verdicts.{same_pair, total_of_entries}
 use Rattle.batch_store.proofs.SumLaws.{base-folded, entries-folded, total-summed}
 use Rattle.batch_store.proofs.VerdictLaws.{distinct_push, total_push}
 use Rattle.log_join.proofs.PlaceLemmas.{get_before, get_behind}
-use Rattle.snap_roll.specs.Has.{IsAt, entry_at}
-use Rattle.snap_roll.specs.Rolls.{AreAdded, AreTakenIn, HasEntry, HasNumber, HasRoomFor, IsAddedTo, IsTakenIn, Window}
+use Rattle.snap_roll.specs.Rolls.{AreAdded, AreTakenIn, HasEntry, HasNumber, HasRoomFor, IsAddedTo, Window}
 use Rattle.snap_roll.specs.Rolls.{entry_of_window, span, sum_of_window, with_sum}
 use Rattle.snap_roll.specs.declared.has.Found.{Found}
 

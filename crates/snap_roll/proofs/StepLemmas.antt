@@ -1,9 +1,9 @@
 -- One window more in a roll.
-use Rattle.std.proofs.Common.{◌≡◌, ◌⊎◌, ℕ, ◌+◌, ◌<◌, ◌≤◌, List, [], ◌∷◌, ◌++◌, length, take, get_or, Option, Some, None}
-use Rattle.std.proofs.Common.{Result, slice_get, inl, inr, refl, sym, ◌∙◌, ap, subst, arith, append-nil}
-use Rattle.std.proofs.lemmas.List.{take_more, length-append}
+use Rattle.std.proofs.Common.{◌≡◌, ℕ, ◌+◌, ◌<◌, ◌≤◌, List, [], ◌∷◌, ◌++◌, length, take, get_or, Option, Some}
+use Rattle.std.proofs.Common.{Result, slice_get, inr, refl, sym, ◌∙◌, ap, subst, arith}
+use Rattle.std.proofs.lemmas.List.{take_all, take_more}
 use Rattle.std.proofs.lemmas.Option.{slice_get-get_or}
-use Rattle.batch_store.specs.Accepted.{Accepted, count_in, entries_in, summed}
+use Rattle.batch_store.specs.Accepted.{Accepted, count_in, summed}
 use Rattle.batch_store.specs.Books.{Listing, accepted_in}
 use Rattle.batch_store.specs.declared.verdict.Entry.{Entry}
 use Rattle.hyper_matrix.specs.Counts.{Counts}
@@ -15,16 +15,15 @@ use Rattle.batch_store.proofs.SumLaws.{entries-folded}
 use Rattle.snap_file.specs.Snapshots.{Saved, saved}
 use Rattle.snap_file.specs.declared.fault.FileFault.{FileFault}
 use Rattle.snap_file.specs.declared.origin.Origin.{Origin}
-use Rattle.snap_report.specs.Kept.{HasLoaded, folded_in}
+use Rattle.snap_report.specs.Kept.{HasLoaded}
 use Rattle.snap_roll.specs.Held.{IsOf, Reads, roll_of}
 use Rattle.snap_roll.specs.Rolls.{AreTakenIn, Begins, HaveRolled, IsRefused, Refuses, Roll, Takes, TellsAdded, TellsWindows}
-use Rattle.snap_roll.specs.Rolls.{Window, begun_roll, entry_of_window, first_setup, sum_of_window, window_of, IsNoRefusal}
+use Rattle.snap_roll.specs.Rolls.{Window, begun_roll, entry_of_window, first_setup, sum_of_window, window_of}
 use Rattle.snap_roll.specs.Rolls.{IsAddedTo, MayGo, RefusesEntry, RefusesTo, TellsTo, Untakes, UntakesEntry, book_in}
-use Rattle.snap_roll.specs.Rolls.{entry_of_sum, roll}
+use Rattle.snap_roll.specs.Rolls.{IsUnread, TellsFile, entry_of_sum, roll}
 use Rattle.snap_roll.specs.Steps.{GoesOn}
 use Rattle.snap_roll.specs.declared.roll_fault.Untaken.{Untaken}
 use Rattle.snap_roll.specs.declared.roll_fault.Untaken.TheVariants as untaken
-use Rattle.snap_roll.specs.declared.roll.Read.{Read}
 use Rattle.snap_roll.specs.declared.roll_fault.RollFault.{RollFault}
 use Rattle.snap_roll.specs.declared.roll_fault.RollFault.TheVariants as fault
 use Rattle.snap_roll.specs.declared.rolling.Rolling.{Rolling}
@@ -69,6 +68,9 @@ to_told loads s t x fault.Memory loaded h = absurd h
 to_told loads s t x (fault.Save why) loaded h = absurd h
 to_told loads s t x (fault.Output why) loaded h = absurd h
 
+got : (gs : List (Option ℕ)) (i : ℕ) (g : Option ℕ) → i < length gs → slice_get gs i ≡ Some g → g ≡ get_or gs i g
+got gs i g lt is = let both : Some g ≡ Some (get_or gs i g) = sym is ∙ slice_get-get_or gs i g lt in cc
+
 first_more : (ws : List Window) (w : Window) (f : Setting) → ((s : Setting) → first_setup ws s ≡ f) → (s : Setting) →
     first_setup (ws ++ w ∷ []) s ≡ f
 first_more [] w f h s = h w.saved.setup
@@ -112,12 +114,12 @@ module _ {S : Type 0} (reads : S → ℕ → Result Saved FileFault → S → Ty
     -- nothing is loaded yet
     pub goes_none : (begun : Saved) (first : Setting) (o : Origin) (had : ℕ) (r : Rolling) (v : S) (next : Rolling)
         (g : Option ℕ) (n : ℕ) (x : Saved) → Begins first found begun → IsOf begun o r →
-        had ≡ count_in (accepted_in r.list) → first ≡ x.setup → 0 < length gs → g ≡ get_or gs 0 g →
+        had ≡ count_in (accepted_in r.list) → first ≡ x.setup → 0 < length gs → slice_get gs 0 ≡ Some g →
         HasLoaded reads u v x → Takes c r.setup g (window_of n x) (roll_of r) (roll_of next) → next.setup ≡ r.setup →
         GoesOn reads c gs found u v o had next 1
     goes_none begun first o had r v next g n x begins of had_is first_is some given loaded takes same =
         let state = subst (λ (y : Roll). Takes c begun.setup g (window_of n x) y (roll_of next)) of.state
-            (subst (λ (t : Setting). Takes c t g (window_of n x) (roll_of r) (roll_of next)) of.setup takes) in
+        (subst (λ (t : Setting). Takes c t g (window_of n x) (roll_of r) (roll_of next)) of.setup takes) in
         record {
           begun = begun;
           windows = window_of n x ∷ [];
@@ -130,13 +132,13 @@ module _ {S : Type 0} (reads : S → ℕ → Result Saved FileFault → S → Ty
               ∙ ap length (entries-folded (summed (accepted_in begun.list)) (accepted_in begun.list));
           grows = omega (arith, had_is, takes_grows r.setup g (window_of n x) (roll_of r) (roll_of next) takes);
           rolled = subst (λ hs. HaveRolled reads c begun.setup hs (window_of n x ∷ []) u (begun_roll begun) v (roll_of next))
-              (ap (λ h. h ∷ []) given ∙ sym (take_more gs 0 g some))
+              (ap (λ h. h ∷ []) (got gs 0 g some given) ∙ sym (take_more gs 0 g some))
               (v, roll_of next, loaded, state, (refl, refl));
         }
 
     -- one more
     pub goes_more : (m : S) (o : Origin) (had : ℕ) (r : Rolling) (at : ℕ) (v : S) (next : Rolling) (g : Option ℕ)
-        (n : ℕ) (x : Saved) → GoesOn reads c gs found u m o had r at → at < length gs → g ≡ get_or gs at g →
+        (n : ℕ) (x : Saved) → GoesOn reads c gs found u m o had r at → at < length gs → slice_get gs at ≡ Some g →
         HasLoaded reads m v x → Takes c r.setup g (window_of n x) (roll_of r) (roll_of next) → next.setup ≡ r.setup →
         GoesOn reads c gs found u v o had next (at + 1)
     goes_more m o had r at v next g n x goes within given loaded takes same =
@@ -153,14 +155,14 @@ module _ {S : Type 0} (reads : S → ℕ → Result Saved FileFault → S → Ty
           grows = omega (arith, goes.grows, takes_grows r.setup g (window_of n x) (roll_of r) (roll_of next) takes);
           rolled = subst (λ hs. HaveRolled reads c goes.begun.setup hs (goes.windows ++ window_of n x ∷ []) u
               (begun_roll goes.begun) v (roll_of next))
-              (ap (λ h. take at gs ++ h ∷ []) given ∙ sym (take_more gs at g within))
+              (ap (λ h. take at gs ++ h ∷ []) (got gs at g within given) ∙ sym (take_more gs at g within))
               (rolled_more goes.begun.setup (take at gs) goes.windows u (begun_roll goes.begun) m v (roll_of r)
               (roll_of next) g (window_of n x) goes.rolled loaded state);
         }
 
     -- a file is refused
     pub goes_refused : (m : S) (o : Origin) (had : ℕ) (r : Rolling) (at : ℕ) (v : S) (g : Option ℕ) (x : Saved)
-        (told : RollFault) → GoesOn reads c gs found u m o had r at → at < length gs → g ≡ get_or gs at g →
+        (told : RollFault) → GoesOn reads c gs found u m o had r at → at < length gs → slice_get gs at ≡ Some g →
         HasLoaded reads m v x → TellsAdded c r.setup g at x (roll_of r) told → TellsWindows reads c gs found u v told
     goes_refused m o had r at v g x (fault.Refused number why) goes within given loaded tells =
         subst (λ (i : ℕ). IsRefused reads c gs found u v i why) (sym tells.0) (record {
@@ -172,7 +174,7 @@ module _ {S : Type 0} (reads : S → ℕ → Result Saved FileFault → S → Ty
           file = x;
           begins = subst (λ (f : Setting). Begins f found goes.begun) (sym (goes.first_is x.setup)) goes.begins;
           rolled = goes.rolled;
-          given_is = slice_get-get_or gs at g within ∙ ap Some (sym given);
+          given_is = given;
           loaded = loaded;
           refused = subst (λ (t : Setting). Refuses c t g x (roll_of r) why) goes.setup_is tells.1;
         })
@@ -187,7 +189,7 @@ module _ {S : Type 0} (reads : S → ℕ → Result Saved FileFault → S → Ty
     -- the first file is refused
     pub first_refused : (begun : Saved) (first : Setting) (o : Origin) (r : Rolling) (v : S) (g : Option ℕ) (x : Saved)
         (told : RollFault) → Begins first found begun → IsOf begun o r → first ≡ x.setup → 0 < length gs →
-        g ≡ get_or gs 0 g → HasLoaded reads u v x → TellsAdded c r.setup g 0 x (roll_of r) told →
+        slice_get gs 0 ≡ Some g → HasLoaded reads u v x → TellsAdded c r.setup g 0 x (roll_of r) told →
         TellsWindows reads c gs found u v told
     first_refused begun first o r v g x (fault.Refused number why) begins of first_is some given loaded tells =
         subst (λ (i : ℕ). IsRefused reads c gs found u v i why) (sym tells.0) (record {
@@ -199,7 +201,7 @@ module _ {S : Type 0} (reads : S → ℕ → Result Saved FileFault → S → Ty
           file = x;
           begins = subst (λ (f : Setting). Begins f found begun) first_is begins;
           rolled = (refl, sym of.state);
-          given_is = slice_get-get_or gs 0 g some ∙ ap Some (sym given);
+          given_is = given;
           loaded = loaded;
           refused = subst (λ (t : Setting). Refuses c t g x (roll_of r) why) of.setup tells.1;
         })
@@ -211,13 +213,40 @@ module _ {S : Type 0} (reads : S → ℕ → Result Saved FileFault → S → Ty
     first_refused begun first o r v g x (fault.Save told) begins of first_is some given loaded tells = absurd tells
     first_refused begun first o r v g x (fault.Output told) begins of first_is some given loaded tells = absurd tells
 
-    -- what is no refusal is told of no window
-    pub none_refused : (v : S) (told : RollFault) → IsNoRefusal told → TellsWindows reads c gs found u v told
-    none_refused v (fault.Refused number why) h = absurd h
-    none_refused v (fault.To told) h = tt
-    none_refused v fault.ToHasWindow h = tt
-    none_refused v fault.ToNotClosed h = tt
-    none_refused v (fault.File i told) h = tt
-    none_refused v fault.Memory h = tt
-    none_refused v (fault.Save told) h = tt
-    none_refused v (fault.Output told) h = tt
+    -- nor a further one
+    pub goes_unread : (m : S) (o : Origin) (had : ℕ) (r : Rolling) (at : ℕ) (v : S) (told : RollFault) →
+        GoesOn reads c gs found u m o had r at → TellsFile reads m v at told → TellsWindows reads c gs found u v told
+    goes_unread m o had r at v (fault.File number why) goes h =
+        subst (λ (i : ℕ). IsUnread reads c gs found u v i why) (sym h.0) (
+          h.1,
+          inr (
+            goes.begun,
+            goes.windows,
+            roll_of r,
+            m,
+            subst (λ (f : Setting). Begins f found goes.begun) (sym (goes.first_is goes.begun.setup)) goes.begins,
+            goes.rolled,
+            h.2,
+          ),
+        )
+    goes_unread m o had r at v fault.Memory goes h = tt
+    goes_unread m o had r at v (fault.Refused number why) goes h = absurd h
+    goes_unread m o had r at v (fault.To told) goes h = absurd h
+    goes_unread m o had r at v fault.ToHasWindow goes h = absurd h
+    goes_unread m o had r at v fault.ToNotClosed goes h = absurd h
+    goes_unread m o had r at v (fault.Save told) goes h = absurd h
+    goes_unread m o had r at v (fault.Output told) goes h = absurd h
+
+    -- all were taken in
+    pub goes_all : (v : S) (o : Origin) (had : ℕ) (r : Rolling) (at : ℕ) → GoesOn reads c gs found u v o had r at →
+        length gs ≤ at → (x : Saved) × (ws : List Window) × Begins (first_setup ws x.setup) found x
+        × Reads x (record { origin = o; had = had; rolling = r })
+        × HaveRolled reads c x.setup gs ws u (begun_roll x) v (roll_of r)
+    goes_all v o had r at goes end = (
+      goes.begun,
+      goes.windows,
+      subst (λ (f : Setting). Begins f found goes.begun) (sym (goes.first_is goes.begun.setup)) goes.begins,
+      record { origin = goes.origin_is; setup = goes.setup_is; had = goes.had_is; grows = goes.grows },
+      subst (λ hs. HaveRolled reads c goes.begun.setup hs goes.windows u (begun_roll goes.begun) v (roll_of r))
+          (take_all at gs end) goes.rolled,
+    )

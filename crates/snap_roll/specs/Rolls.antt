@@ -28,7 +28,13 @@
 --                         another
 --     IsKept saves t x added
 --                         so many windows were new; the result was saved where there is one, else nothing
---     TellsRoll .. fault  a window is refused only where it is, once those before it were taken in
+--     TellsTo loads s t fault
+--                         what is told of the coarser file's load
+--     TellsWindows .. fault
+--                         a window's file is refused, or can't be read, only where that is so, once those before it were
+--                         taken in
+--     TellsRoll .. fault  the coarser file has answered one load and no other call, and one of these two is told; or it
+--                         was to be saved with the windows, and its answer is told
 --     roll_line added b   the line: how many windows were new, how many batches the coarser file has, and their total
 use Rattle.std.specs.Prelude.{◌≡◌, ◌⊎◌, ◌≢◌, ◌+◌, ◌<◌, ◌≤◌, ℕ, List, [], ◌∷◌, ◌++◌, map, take, slice_get}
 use Rattle.std.specs.Prelude.{true, false}
@@ -45,8 +51,9 @@ use Rattle.snap_file.specs.declared.fault.FileFault.{FileFault}
 use Rattle.snap_file.specs.declared.fault.SaveFault.{SaveFault}
 use Rattle.snap_file.specs.declared.origin.Identity.{Identity}
 use Rattle.snap_file.specs.declared.origin.Origin.{Origin}
-use Rattle.snap_report.specs.Kept.{HasLoaded, folded_in, most_bytes}
+use Rattle.snap_report.specs.Kept.{HasLoaded, IsFileFault, IsSaveFault, folded_in, most_bytes}
 use Rattle.snap_report.specs.Logged.{HasFound}
+use Rattle.snap_report.specs.Made.{IsLeft}
 use Rattle.snap_roll.specs.Has.{IsAt, entry_at}
 use Rattle.snap_roll.specs.declared.has.Found.{Found}
 use Rattle.snap_roll.specs.declared.roll_fault.RollFault.{RollFault}
@@ -230,13 +237,25 @@ pub record IsRefused {S : Type 0} (reads : S → ℕ → Result Saved FileFault 
   pub loaded : HasLoaded reads place v file
   pub refused : Refuses c begun.setup given file state told
 
+-- the file of this number couldn't be read, once those before it were taken in
+abbrev pub IsUnread : {S : Type 0} → (S → ℕ → Result Saved FileFault → S → Type 0) → ℕ → List (Option ℕ) →
+    Option Saved → S → S → ℕ → FileFault → Type 0
+IsUnread {S} reads c gs found u v at told =
+    IsFileFault told × (((at ≡ 0) × reads u most_bytes (Err told) v)
+    ⊎ ((begun : Saved) × (ws : List Window) × (state : Roll) × (place : S)
+    × Begins (first_setup ws begun.setup) found begun
+    × HaveRolled reads c begun.setup (take at gs) ws u (begun_roll begun) place state
+    × reads place most_bytes (Err told) v))
+
 abbrev pub TellsWindows : {S : Type 0} → (S → ℕ → Result Saved FileFault → S → Type 0) → ℕ → List (Option ℕ) →
     Option Saved → S → S → RollFault → Type 0
 TellsWindows reads c gs found u v (fault.Refused at told) = IsRefused reads c gs found u v at told
-TellsWindows reads c gs found u v _ = Unit {0}
+TellsWindows reads c gs found u v (fault.File at told) = IsUnread reads c gs found u v at told
+TellsWindows reads c gs found u v fault.Memory = Unit {0}
+TellsWindows reads c gs found u v _ = ⊥
 
 abbrev pub TellsTo : {F : Type 0} → (F → ℕ → Result Saved FileFault → F → Type 0) → F → F → RollFault → Type 0
-TellsTo loads s t (fault.To told) = loads s most_bytes (Err told) t
+TellsTo loads s t (fault.To told) = IsFileFault told × (told ≢ FileFault.NotFound) × loads s most_bytes (Err told) t
 TellsTo loads s t fault.ToHasWindow = (x : Saved) × HasLoaded loads s t x × (x.origin.identity.window ≢ no_window)
 TellsTo loads s t fault.ToNotClosed = (x : Saved) × HasLoaded loads s t x × (x.origin.has_log ≡ true)
 TellsTo loads s t fault.Memory = Unit {0}
@@ -254,22 +273,42 @@ TellsAdded c t g at x r (fault.Refused number told) = (number ≡ at) × Refuses
 TellsAdded c t g at x r fault.Memory = Unit {0}
 TellsAdded c t g at x r _ = ⊥
 
-abbrev pub IsNoRefusal : RollFault → Type 0
-IsNoRefusal (fault.Refused number told) = ⊥
-IsNoRefusal _ = Unit {0}
+-- what is told of the load of the window's file of a number
+abbrev pub TellsFile : {S : Type 0} → (S → ℕ → Result Saved FileFault → S → Type 0) → S → S → ℕ → RollFault → Type 0
+TellsFile reads u v at (fault.File number told) = (number ≡ at) × IsFileFault told × reads u most_bytes (Err told) v
+TellsFile reads u v at fault.Memory = Unit {0}
+TellsFile reads u v at _ = ⊥
+
+-- the coarser file was to be saved, since a window was new, and has answered so
+abbrev pub IsUnsaved : {F S : Type 0} → (F → ℕ → Result Saved FileFault → F → Type 0) →
+    (F → Origin → Setting → Accepted → Result (Unit {0}) SaveFault → F → Type 0) →
+    (S → ℕ → Result Saved FileFault → S → Type 0) → ℕ → List (Option ℕ) → F → F → S → S → SaveFault → Type 0
+IsUnsaved {F} loads saves reads c gs s t u v told =
+    (x : Made F) × HasRolled loads reads c gs s u v x
+    × (count_in (accepted_in x.begun.list) < count_in x.last.state)
+    × saves x.loaded x.begun.origin x.begun.setup x.last.state (Err told) t
+
+-- what is told before the coarser file is to be saved
+abbrev pub TellsUnrolled : {F S : Type 0} → (F → ℕ → Result Saved FileFault → F → Type 0) →
+    (S → ℕ → Result Saved FileFault → S → Type 0) → ℕ → List (Option ℕ) → F → F → S → S → RollFault → Type 0
+TellsUnrolled loads reads c gs s t u v told =
+    IsLeft loads s t × (TellsTo loads s t told
+    ⊎ ((found : Option Saved) × HasFound loads s t found × TellsWindows reads c gs found u v told))
 
 abbrev pub TellsRoll : {F S : Type 0} → (F → ℕ → Result Saved FileFault → F → Type 0) →
+    (F → Origin → Setting → Accepted → Result (Unit {0}) SaveFault → F → Type 0) →
     (S → ℕ → Result Saved FileFault → S → Type 0) → ℕ → List (Option ℕ) → F → F → S → S → RollFault → Type 0
-TellsRoll loads reads c gs s t u v told =
-    TellsTo loads s t told
-    ⊎ ((found : Option Saved) × HasFound loads s t found × TellsWindows reads c gs found u v told)
+TellsRoll loads saves reads c gs s t u v (fault.Save told) =
+    IsSaveFault told × IsUnsaved loads saves reads c gs s t u v told
+TellsRoll loads saves reads c gs s t u v fault.Memory =
+    IsLeft loads s t ⊎ IsUnsaved loads saves reads c gs s t u v SaveFault.Memory
+TellsRoll loads saves reads c gs s t u v (fault.Output told) = ⊥
+TellsRoll loads saves reads c gs s t u v told = TellsUnrolled loads reads c gs s t u v told
 
--- the faults after which the coarser file may have been saved
-abbrev pub LeavesRolled : RollFault → Type 0
-LeavesRolled (fault.Save told) = Unit {0}
-LeavesRolled (fault.Output told) = Unit {0}
-LeavesRolled fault.Memory = Unit {0}
-LeavesRolled _ = ⊥
+-- the only fault after which something may have been written
+abbrev pub LeavesLine : RollFault → Type 0
+LeavesLine (fault.Output told) = Unit {0}
+LeavesLine _ = ⊥
 
 abbrev pub roll_line : ℕ → Accepted → List ℕ
 roll_line added b =

@@ -1,16 +1,18 @@
 //! `roll`: takes closed windows into a coarser file, each once, however often it is run.
-ghost use Rattle.std.specs.Prelude.{◌≡◌, ◌⊎◌, ◌+◌, ◌<◌, ◌≤◌, ◌^◌, ℕ, List, length, OnOk, IfOk, IfErr, IfSome};
-ghost use Rattle.byte_io.specs.Writing.{HasTaken};
+ghost use Rattle.std.specs.Prelude.{◌≡◌, ◌⊎◌, ◌+◌, ◌<◌, ◌≤◌, ◌^◌, ℕ, List, length, slice_get};
+ghost use Rattle.std.specs.Prelude.{Some, Err, OnOk, IfOk, IfErr, IfSome};
+ghost use Rattle.byte_io.specs.Writing.{HasStopped, HasTaken};
+ghost use Rattle.byte_io.specs.declared.fault.WriteFault.{WriteFault};
 ghost use Rattle.batch_store.specs.Accepted.{count_in};
 ghost use Rattle.batch_store.specs.Books.{accepted_in};
 ghost use Rattle.snap_file.specs.Snapshots.{Saved};
 ghost use Rattle.snap_report.specs.Kept.{HasLoaded};
 ghost use Rattle.snap_report.specs.Logged.{HasFound};
 ghost use Rattle.snap_report.specs.Made.{IsLeft};
-ghost use Rattle.snap_roll.specs.Held.{IsKeptFrom, IsOf, IsRolling, Reads, added_in, roll_of};
-ghost use Rattle.snap_roll.specs.Rolls.{Begins, HasRolled, HaveRolled, IsCoarser, IsKept, LeavesRolled, Made, Takes};
-ghost use Rattle.snap_roll.specs.Rolls.{IsNoRefusal, RefusesTo, TellsAdded, TellsRoll, TellsTo, TellsWindows};
-ghost use Rattle.snap_roll.specs.Rolls.{Window, begun_empty, begun_roll, first_setup, roll_line, window_of};
+ghost use Rattle.snap_roll.specs.Held.{IsKeptFrom, IsOf, IsRolling, Reads, TellsKeep, added_in, roll_of};
+ghost use Rattle.snap_roll.specs.Rolls.{Begins, HasRolled, HaveRolled, IsCoarser, IsKept, LeavesLine, Made, RefusesTo};
+ghost use Rattle.snap_roll.specs.Rolls.{Takes, TellsAdded, TellsFile, TellsRoll, TellsTo, TellsWindows, Window};
+ghost use Rattle.snap_roll.specs.Rolls.{begun_empty, begun_roll, first_setup, roll_line, window_of};
 
 use crate::roll_fault::{RollFault, Untaken};
 use crate::rolling::{Rolling, empty_list, folded, take_in};
@@ -69,7 +71,7 @@ fn load_window<S: SnapshotFiles>(
     at: u64,
 ) -> Result<Snapshot, RollFault>
     ensures ok { IfOk result (λ x. HasLoaded S.load_gives files.old files.new x) }
-    ensures err { IfErr result IsNoRefusal }
+    ensures err { IfErr result (TellsFile S.load_gives files.old files.new at) }
 {
     match files.load_next(alloc, SNAPSHOT_BYTES) {
         Ok(snapshot) => Ok(snapshot),
@@ -150,6 +152,14 @@ fn add_window(
     }
 }
 
+// The number that is given for the file of this number.
+fn number_at(given: &[Option<u64>], at: usize) -> Option<u64>
+    requires { at < length given.now }
+    ensures { slice_get given.now at ≡ Some result }
+{
+    given[at]
+}
+
 // Loads the windows, and takes them into the coarser file that was found, or into a new one.
 fn take_all<S: SnapshotFiles>(
     alloc: Global,
@@ -170,10 +180,12 @@ fn take_all<S: SnapshotFiles>(
     let window = load_window(alloc, files, 0)?;
     let (origin, begun) = begin(alloc, found, &window.setup)?;
     let had = begun.list.folded.len();
-    let mut rolling = add_window(alloc, begun, client, given[0], 0, window)?;
+    let number = number_at(given, 0);
+    let mut rolling = add_window(alloc, begun, client, number, 0, window)?;
     'windows: for at in 1..given.len() {
         let window = load_window(alloc, files, at as u64)?;
-        rolling = add_window(alloc, rolling, client, given[at], at as u64, window)?;
+        let number = number_at(given, at);
+        rolling = add_window(alloc, rolling, client, number, at as u64, window)?;
     }
     Ok(Read {
         origin,
@@ -187,7 +199,7 @@ fn keep<F: SnapshotFile>(alloc: Global, to: &mut F, read: &Read) -> Result<(), R
     requires whole { IsRolling read.now.rolling }
     requires grows { read.now.had ≤ count_in (accepted_in read.now.rolling.list) }
     ensures ok { OnOk result (IsKeptFrom F.save_gives to.old to.new read.now) }
-    ensures err { IfErr result LeavesRolled }
+    ensures err { IfErr result (TellsKeep F.save_gives to.old to.new read.now) }
 {
     let rolling = &read.rolling;
     if rolling.list.folded.len() == read.had {
@@ -213,6 +225,29 @@ fn line_of(read: &Read) -> ArrayString<LINE_CAPACITY>
     push_number(&mut line, " total ", list.base.total());
     line.push_str("\n");
     line
+}
+
+// Takes the windows in these files into the coarser file, and saves it where one was new.
+fn roll_windows<F: SnapshotFile, S: SnapshotFiles>(
+    alloc: Global,
+    to: &mut F,
+    files: &mut S,
+    client: u64,
+    given: &[Option<u64>],
+) -> Result<Read, RollFault>
+    requires some { 0 < length given.now }
+    ensures ok { IfOk result (λ read. (x : Made F)
+        × HasRolled F.load_gives S.load_gives client given.now to.old files.old files.new x
+        × IsKept F.save_gives to.new x (added_in read) × (x.last.state ≡ accepted_in read.rolling.list)) }
+    ensures whole { IfOk result (λ read. IsRolling read.rolling) }
+    ensures grows { IfOk result (λ read. read.had ≤ count_in (accepted_in read.rolling.list)) }
+    ensures err { IfErr result (TellsRoll F.load_gives F.save_gives S.load_gives client given.now to.old to.new
+        files.old files.new) }
+{
+    let found = load_to(alloc, to)?;
+    let read = take_all(alloc, files, client, given, found)?;
+    keep(alloc, to, &read)?;
+    Ok(read)
 }
 
 /// Takes the closed windows in these files into a coarser file, and writes the line `rolled A batches B total T`: how many
@@ -250,14 +285,18 @@ pub fn run_roll<F: SnapshotFile, S: SnapshotFiles, W: Sink>(
         × IsKept F.save_gives to.new x added
         × HasTaken W.write_takes W.failure_count w.old w.new (roll_line added x.last.state)) }
 
-    // Before a save the coarser file has answered one load, and no other call; a fault says why.
-    ensures unsaved { IfErr result (λ fault. LeavesRolled fault
-        ⊎ (IsLeft F.load_gives to.old to.new × (w.new ≡ w.old)
-        × TellsRoll F.load_gives S.load_gives client given.now to.old to.new files.old files.new fault)) }
+    // The coarser file is as after a roll that succeeds, but the line wasn't written whole.
+    ensures output { (fault : WriteFault) → result ≡ Err (RollFault.Output fault) → (x : Made F) × (added : ℕ)
+        × HasRolled F.load_gives S.load_gives client given.now to.old files.old files.new x
+        × IsKept F.save_gives to.new x added
+        × HasStopped W.write_takes W.failure_count w.old w.new (roll_line added x.last.state) fault.written }
+
+    // Every other fault says what was answered, and before a save the coarser file has answered one load alone.
+    ensures told { IfErr result (λ fault. LeavesLine fault
+        ⊎ ((w.new ≡ w.old) × TellsRoll F.load_gives F.save_gives S.load_gives client given.now to.old to.new
+        files.old files.new fault)) }
 {
-    let found = load_to(alloc, to)?;
-    let read = take_all(alloc, files, client, given, found)?;
-    keep(alloc, to, &read)?;
+    let read = roll_windows(alloc, to, files, client, given)?;
     match write_line(w, &line_of(&read)) {
         Ok(()) => Ok(()),
         Err(fault) => Err(RollFault::Output(fault)),

@@ -1,4 +1,3 @@
-use Rattle.std.proofs.Common.{◌≤◌}
 use Rattle.snap_roll.specs.Held.{IsRolling}
 use Rattle.snap_roll.specs.Steps.{GoesOn}
 use Rattle.snap_roll.proofs.roll.take_all.Given as goal

@@ -1,7 +1,5 @@
 use Rattle.std.proofs.Common.{◌∙◌, ap}
-use Rattle.hyper_matrix.specs.Counts.{total}
 use Rattle.hyper_matrix.specs.Matrix.{Matrix}
-use Rattle.hyper_matrix.proofs.CountLaws.{total-empty}
 use Rattle.snap_roll.proofs.RollLemmas.{nothing_based}
 use Rattle.snap_roll.proofs.rolling.empty_list.Goals as goal
 

@@ -1,6 +1,6 @@
 use Rattle.std.proofs.Common.{◌∙◌, ap, sym, subst}
 use Rattle.hyper_matrix.specs.Matrix.{Matrix}
-use Rattle.batch_store.specs.Accepted.{Accepted, accepted, summed}
+use Rattle.batch_store.specs.Accepted.{Accepted, accepted}
 use Rattle.batch_store.specs.Batches.{values}
 use Rattle.batch_store.specs.Books.{AreAccepted, accepted_in}
 use Rattle.snap_report.proofs.FoldLemmas.{base_of_all}
