@@ -142,7 +142,7 @@ def kubernetes():
 
 UNITS = {
     "systemd": ("hhm@.service", "hhm-hours.service", "hhm-hours.timer"),
-    "windows": ("hhm-windows.service", "hhm-windows.timer"),
+    "windows": ("hhm-windows.service", "hhm-windows.timer", "hhm-rolled.service", "hhm-rolled.timer"),
 }
 
 
@@ -169,7 +169,8 @@ def systemd():
         return
     places = {"/usr/local/bin/hhm-run": f"{TOP}/tools/hhm-run",
               "/usr/local/lib/hhm/hours.sh": f"{TOP}/examples/systemd/hours.sh",
-              "/usr/local/lib/hhm/windows.sh": f"{TOP}/examples/windows/windows.sh"}
+              "/usr/local/lib/hhm/windows.sh": f"{TOP}/examples/windows/windows.sh",
+              "/usr/local/lib/hhm/rolled.sh": f"{TOP}/examples/windows/rolled.sh"}
     folder = os.path.join(server.FOLDER, "units")
     os.mkdir(folder)
     for where, name in [(where, name) for where, names in UNITS.items() for name in names]:

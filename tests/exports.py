@@ -2,13 +2,13 @@
 """Exports snapshots by the built program: several as one text, what one has more than another, and as a compact matrix
 in a folder.
 
-    python3 tests/exports.py PATH-TO-HHM
+    python3 tests/exports.py PATH-TO-HHM [DRAWS]
 
-What is wanted was worked out by hand from docs/FORMATS.md, or by a loop over the cells with a dictionary. Each growth,
-each read, each write and each sync of a compact export is refused in turn, by the library of tests/refuse.c. Where scipy
-or R are there, they read what was saved; what isn't there leaves a line that says so. It prints a line for each case
-that fails and at the end `N passed, M failed`; the status is 1 where one fails. Linux, and nothing but Python's own
-library and, for the refusals, the toolchain's clang.
+Differences are taken of 200 drawn books, or of DRAWS. What is wanted was worked out by hand from docs/FORMATS.md, or by
+a loop over the cells with a dictionary. Each growth, each read, each write and each sync of a compact export is refused
+in turn, by the library of tests/refuse.c. Where scipy or R are there, they read what was saved; what isn't there leaves
+a line that says so. It prints a line for each case that fails and at the end `N passed, M failed`; the status is 1
+where one fails. Linux, and nothing but Python's own library and, for the refusals, the toolchain's clang.
 """
 import os
 import random
@@ -384,10 +384,10 @@ def wanted_difference(later, earlier):
 
 
 def drawn_differences(folder):
-    """200 books, with folds between the two files, and sums that add up to the later one's."""
+    """Books with folds between the two files, and sums that add up to the later one's."""
     dice = random.Random(2026)
     wide = {"limit": MOST, "most": 100}
-    for draw in range(200):
+    for draw in range(int(sys.argv[2]) if len(sys.argv) > 2 else 200):
         size = dice.choice([3, 6, 1 << 32, SIZE])
         batches, at, new_at, old_at = drawn_book(dice, min(size, 6))
         wide |= {"rows": size, "cols": size}
@@ -577,7 +577,7 @@ def other_tools(folder):
 
 def main():
     global PROGRAM
-    if len(sys.argv) != 2:
+    if len(sys.argv) not in (2, 3):
         sys.exit(__doc__)
     PROGRAM = os.path.abspath(sys.argv[1])
     for tried in [

@@ -23,7 +23,8 @@ OF_HHM = (
     "generated.py", "folding.py", "server_faults.py", "server_log.py", "identity.py", "forking.py",
     "fold_files.py", "growing.py", "server_log_faults.py", "log_events.py", "call_order.py", "log_torture.py",
     "server_paths.py", "server_ends.py", "progress.py", "server_clients.py", "install.py", "distribution.py",
-    "examples.py", "windows.py", "backups.py", "refused.py",
+    "examples.py", "windows.py", "rolls.py", "backups.py",
+    "refused.py",
 )  # fmt: skip
 OF_GROWTHS = ("refused_libraries.py",)
 OF_BENCH = ("run.py", "serve.py")

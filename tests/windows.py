@@ -1,21 +1,23 @@
 #!/usr/bin/env python3
-"""Runs examples/windows beside a server of the built program, hour by hour of a clock of its own.
+"""Runs the scripts of examples/windows beside servers of the built program, hour by hour of a clock of its own.
 
     python3 tests/windows.py PATH-TO-HHM
 
 The texts of hours and days are compared with the sums of the batches that were put in them, by a loop with a dictionary;
-the texts of all hours together with the sum of all. The script is killed before each of its steps, and called again. It
+the texts of all hours together with the sum of all. Each script is killed before each of its steps, and called again. It
 prints a line for each check that fails and at the end `N passed, M failed`; the status is 1 where one fails. Linux, and
 nothing but Python's own library and the client of clients/python.
 """
 import os
 import random
 import shutil
+import signal
 import subprocess
 import sys
+import time
 
 import server
-from hhm_client import BANNER
+from hhm_client import BANNER, Client
 from server import WAIT, Server, check
 
 TOP = os.path.dirname(server.HERE)
@@ -202,7 +204,156 @@ def faults_are_told():
         check("faults: the next day", windows.call(running, BEGIN + 26 * HOUR), (0, ""))
 
 
+# What stands for systemctl: it starts and stops servers as hhm@.service has them.
+SYSTEMCTL = """#!/bin/bash
+what=$1
+shift
+for name; do
+    folder=$STATE/${name#hhm@}
+    socket=$folder/sock
+    if [[ $what = start && ! -S $socket ]]; then
+        mkdir -p "$folder"
+        "$SERVER" serve --unix "$socket" --rows 4294967296 --cols 4294967296 --fold-above 50 \\
+            --snapshot "$folder/sum.snap" --log "$folder/sum.hhmlog" </dev/null >>"$STATE/said" 2>&1 &
+        echo $! >"$folder/pid"
+        until [[ -S $socket ]]; do sleep 0.02; done
+    elif [[ $what = stop && -S $socket ]]; then
+        pid=$(cat "$folder/pid")
+        kill "$pid" 2>/dev/null || continue
+        while kill -0 "$pid" 2>/dev/null; do sleep 0.02; done
+    fi
+done
+"""
+
+
+class Rolled(Windows):
+    """A folder of servers for hours, and calls of rolled.sh over it."""
+
+    def __init__(self, name):
+        super().__init__(name)
+        self.state = self.path("state")
+        os.mkdir(self.state)
+        with open(self.path("systemctl"), "w") as file:
+            file.write(SYSTEMCTL)
+        os.chmod(file.name, 0o755)
+        self.words.update(STATE=self.state, SYSTEMCTL=file.name, SERVER=server.PROGRAM, KEEP_HOURS="168", KEEP_DAYS="35")
+
+    def call(self, now, kills=-1, **more):
+        with open(self.path("kills"), "w") as file:
+            file.write(f"{kills}\n")
+        script = os.path.join(os.path.dirname(SCRIPT), "rolled.sh")
+        words = {**os.environ, **self.words, **more}
+        ended = subprocess.run([script, str(now)], env=words, capture_output=True, text=True, timeout=WAIT)
+        return ended.returncode, ended.stderr
+
+    def client(self, hour):
+        return Client(client=7, unix=os.path.join(self.state, hour, "sock"))
+
+    def fill(self, hour, batches):
+        """Puts batches into an hour's server, each of them twice, and saves between them."""
+        with self.client(hour) as hhm:
+            for number, cells in enumerate(batches):
+                for _ in range(2):
+                    hhm.put(number, cells)
+                if number == 0:
+                    hhm.save()
+
+    def kill(self, hour):
+        """Kills an hour's server, whose last batches are in its log alone."""
+        with open(os.path.join(self.state, hour, "pid")) as file:
+            pid = int(file.read())
+        os.kill(pid, signal.SIGKILL)
+        while os.path.exists(f"/proc/{pid}"):
+            time.sleep(0.01)
+        os.remove(os.path.join(self.state, hour, "sock"))
+
+    def sum_of(self, *names):
+        words = [server.PROGRAM, "export", os.path.join(self.kept, *names)]
+        return subprocess.run(words, capture_output=True, text=True, timeout=WAIT).stdout
+
+    def stop(self):
+        names = [f"hhm@{it}" for it in os.listdir(self.state) if it.isdigit()]
+        subprocess.run([self.path("systemctl"), "stop", *names], env={**os.environ, **self.words}, check=True)
+
+
+def names_of(end, begin=0):
+    """The hours from one up to another, from the first one on, as servers are named."""
+    return [time.strftime("%Y%m%d%H", time.gmtime(BEGIN + HOUR * at)) for at in range(begin, end)]
+
+
+def hours_are_rolled_into_days():
+    """Each hour's file is the sum of its batches, and each day's that of its hours, once each, though a server was killed,
+    or had no batch, and though the script is called again."""
+    rolled, dice = Rolled("rolled"), random.Random(82)
+    names = names_of(5)
+    hours = [drawn(dice) + [[(9, at, 1)]] for at in range(4)] + [[]]
+    for at, name in enumerate(names):
+        check(f"rolled {name}: status", rolled.call(BEGIN + HOUR * at), (0, ""))
+        rolled.fill(name, hours[at])
+        if at == 1:
+            rolled.kill(name)
+    for at in range(5, 9):
+        for _ in range(2):
+            check(f"rolled, {at}: status", rolled.call(BEGIN + HOUR * at), (0, ""))
+    # The first call began the servers of the two hours before, which had no batch.
+    check("rolled: hours", rolled.files("hours"), sorted(f"{it}.snap" for it in names_of(6, -2)))
+    for name, batches in zip(names, hours):
+        check(f"rolled: hour {name}", rolled.sum_of("hours", f"{name}.snap"), text_of(sum_of(batches)))
+    check("rolled: days", [it for it in rolled.files("days") if not it.endswith(".lock")],
+          ["20261130.snap", "20261201.snap"])  # fmt: skip
+    check("rolled: the first day", rolled.sum_of("days", "20261130.snap"), text_of(sum_of(sum(hours[:2], []))))
+    check("rolled: the second day", rolled.sum_of("days", "20261201.snap"), text_of(sum_of(sum(hours[2:], []))))
+    has = subprocess.run([server.PROGRAM, "has", os.path.join(rolled.kept, "days", "20261130.snap"), "1", names[1]],
+                         capture_output=True, text=True, timeout=WAIT)  # fmt: skip
+    total = sum(sum_of(hours[1]).values())
+    check("rolled: an hour is in", has.stdout, f"index 3 cells {len(sum_of(hours[1]))} total {total}\n")
+    check("rolled: folders", sorted(it for it in os.listdir(rolled.state) if it.isdigit()), names_of(10)[6:])
+    check("rolled: later", rolled.call(BEGIN + 200 * HOUR), (0, ""))
+    check("rolled: old hours go", [it for it in rolled.files("hours") if it[:10] < "2026120206"], [])
+    rolled.stop()
+
+
+def a_closed_hour_stays_closed():
+    """What comes into an hour once it was closed is told of, and is in no day."""
+    rolled = Rolled("closed")
+    check("closed: status", rolled.call(BEGIN), (0, ""))
+    name = names_of(1)[0]
+    rolled.fill(name, [[(1, 1, 1)]])
+    check("closed: it is closed", rolled.call(BEGIN + 3 * HOUR), (0, ""))
+    subprocess.run([rolled.path("systemctl"), "start", f"hhm@{name}"], env={**os.environ, **rolled.words}, check=True)
+    rolled.fill(name, [[(2, 2, 2)]])
+    said = f"rolled.sh: {rolled.state}/{name} has more than {rolled.kept}/hours/{name}.snap\n"
+    check("closed: told", rolled.call(BEGIN + 3 * HOUR), (1, said))
+    check("closed: its folder stays", os.path.exists(os.path.join(rolled.state, name)), True)
+    check("closed: the day", rolled.sum_of("days", "20261130.snap"), text_of({(1, 1): 1}))
+    rolled.stop()
+
+
+def kills_of_a_roll_leave_each_hour_once():
+    """Killed before each of its steps and called again, the script leaves what it leaves without kills."""
+    dice, step = random.Random(83), 0
+    while True:
+        rolled = Rolled(f"rolled kills{step}")
+        batches = drawn(dice) + [[(0, 0, 1)]]
+        check(f"kill of a roll {step}: before", rolled.call(BEGIN), (0, ""))
+        name = names_of(1)[0]
+        rolled.fill(name, batches)
+        status, _ = rolled.call(BEGIN + 3 * HOUR, kills=step)
+        check(f"kill of a roll {step}: again", rolled.call(BEGIN + 3 * HOUR), (0, ""))
+        for names in (("hours", f"{name}.snap"), ("days", "20261130.snap")):
+            check(f"kill of a roll {step}: {names}", rolled.sum_of(*names), text_of(sum_of(batches)))
+        check(f"kill of a roll {step}: its folder", os.path.exists(os.path.join(rolled.state, name)), False)
+        rolled.stop()
+        if status == 0:
+            break
+        step += 1
+    check("kills of a roll: there were some", step > 4, True)
+
+
 def all_are_tried():
+    hours_are_rolled_into_days()
+    a_closed_hour_stays_closed()
+    kills_of_a_roll_leave_each_hour_once()
     hours_and_days_are_kept()
     what_is_old_goes()
     kills_leave_nothing_half()

@@ -12,11 +12,13 @@ use Rattle.hhm.specs.declared.numbers.ListFault.TheVariants as list
 use Rattle.hhm.specs.declared.report.Fault.{Fault}
 use Rattle.hhm.specs.declared.report.Fault.TheVariants.{BadNumber, BadPath, BadLog, BadOut, Exists, LogBusy, NoRandom}
 use Rattle.hhm.specs.declared.report.Fault.TheVariants.{SamePath, Setup, Sum, Texts, Check, Fold, Make, Export}
-use Rattle.hhm.specs.declared.report.Fault.TheVariants.{Difference}
+use Rattle.hhm.specs.declared.report.Fault.TheVariants.{Difference, BadTo, BadFile, Roll}
 use Rattle.snap_export.specs.declared.fault.ExportFault.{ExportFault}
 use Rattle.snap_export.specs.declared.fault.ExportFault.TheVariants as export
 use Rattle.snap_export.specs.declared.minus_fault.DifferenceFault.{DifferenceFault}
 use Rattle.snap_export.specs.declared.minus_fault.DifferenceFault.TheVariants as difference
+use Rattle.snap_roll.specs.declared.roll_fault.RollFault.{RollFault}
+use Rattle.snap_roll.specs.declared.roll_fault.RollFault.TheVariants as roll
 use Rattle.snap_report.specs.declared.fault.CheckFault.{CheckFault}
 use Rattle.snap_report.specs.declared.fault.CheckFault.TheVariants as check
 use Rattle.snap_report.specs.declared.making.MakeFault.{MakeFault}
@@ -123,11 +125,23 @@ difference_status difference.Memory = 5
 difference_status (difference.Output fault) = 4
 difference_status (difference.Save fault) = 4
 
+abbrev pub roll_status : RollFault → ℕ
+roll_status (roll.To fault) = file_status fault
+roll_status roll.ToHasWindow = 3
+roll_status roll.ToNotClosed = 3
+roll_status (roll.File at fault) = file_status fault
+roll_status (roll.Refused at why) = 3
+roll_status roll.Memory = 5
+roll_status (roll.Save fault) = 4
+roll_status (roll.Output fault) = 4
+
 abbrev pub fault_status : Fault → ℕ
 fault_status BadNumber = 2
 fault_status BadPath = 2
 fault_status BadLog = 2
 fault_status BadOut = 2
+fault_status BadTo = 2
+fault_status BadFile = 2
 fault_status Exists = 4
 fault_status LogBusy = 4
 fault_status NoRandom = 4
@@ -140,3 +154,4 @@ fault_status (Fold fault) = fold_status fault
 fault_status (Make fault) = make_status fault
 fault_status (Export fault) = export_status fault
 fault_status (Difference fault) = difference_status fault
+fault_status (Roll fault) = roll_status fault

@@ -4,6 +4,7 @@ use crate::export_cli::export_command;
 use crate::query_cli::{
     degrees_command, has_command, list_command, snapshots_command, top_command,
 };
+use crate::roll_cli::roll_command;
 use crate::serve_cli::{serve_command, with_numbers};
 use clap::builder::ValueParser;
 use clap::{Arg, ArgAction, Command};
@@ -274,5 +275,6 @@ pub fn command<'a>(alloc: Global) -> Result<Command<'a>, AllocError> {
     hhm = with(hhm, list_command(alloc))?;
     hhm = with(hhm, degrees_command(alloc))?;
     hhm = with(hhm, has_command(alloc))?;
+    hhm = with(hhm, roll_command(alloc))?;
     with(hhm, serve_command(alloc))
 }

@@ -20,6 +20,8 @@ mod path_host;
 mod query;
 mod query_cli;
 mod report;
+mod roll_cli;
+mod roll_word;
 mod serve;
 mod serve_cli;
 mod streams;
@@ -33,6 +35,7 @@ use crate::numbers::read_list;
 use crate::path_host::PathHost;
 use crate::query::{number_of, range_of, side_of, top_query_of};
 use crate::report::Fault;
+use crate::roll_word::{file_of_roll, roll_words};
 use crate::serve::{ServeOrder, order_of, status_of};
 use crate::streams::ClosedStreams;
 use crate::sum_files::{NamedTexts, has_input, is_input_alone, place_of};
@@ -134,6 +137,7 @@ fn run_matches(rt: &HostRuntime, matches: &ArgMatches) -> Result<Outcome, Fault>
             Ok(Outcome::Ended(ExitCode::SUCCESS))
         }
         Some(("has", given)) => Ok(Outcome::Ended(run_has_word(rt, given)?)),
+        Some(("roll", given)) => Ok(Outcome::Ended(run_roll_word(rt, given))),
         Some((word, given)) => Ok(Outcome::Ended(run_word(rt, word, given))),
         None => Ok(Outcome::Ended(ExitCode::SUCCESS)),
     }
@@ -212,6 +216,24 @@ fn run_has_word(rt: &HostRuntime, given: &ArgMatches) -> Result<ExitCode, Fault>
     match outcome? {
         Some(_) => Ok(ExitCode::SUCCESS),
         None => Ok(ExitCode::from(1)),
+    }
+}
+
+/// Takes the windows that are named into a coarser file, and says a fault in one line on standard error, with the file
+/// that it is of. How far the reading of the windows has come is said on a terminal.
+fn run_roll_word(rt: &HostRuntime, given: &ArgMatches) -> ExitCode {
+    let to = given.get_str("to").unwrap_or("");
+    let words = given.get_strs("file").unwrap_or(&[]);
+    let mut line = progress_line(rt, rt.stderr().is_terminal(), Entries::Cells);
+    let outcome = roll_words(rt, given, to, words, &mut line);
+    clear(&mut line);
+    match outcome {
+        Ok(()) => ExitCode::SUCCESS,
+        Err(fault) => {
+            let place = file_of_roll(&fault, to, words);
+            let _ = eprintln!(rt; "hhm: {fault}{place}");
+            fault.exit_code()
+        }
     }
 }
 

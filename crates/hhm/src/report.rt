@@ -4,6 +4,8 @@ ghost use Rattle.hhm.specs.Reports.{check_status, export_status, fault_of_list, 
 ghost use Rattle.hhm.specs.Reports.{difference_status, file_status, log_kind_status, texts_status};
 ghost use Rattle.mm_sum.specs.declared.fault.SumFault.TheVariants.{Memory, Output};
 ghost use Rattle.hhm.specs.declared.report.Fault.TheVariants.{Setup, Sum, Texts, Check, Fold, Make, Export, Difference};
+ghost use Rattle.hhm.specs.declared.report.Fault.TheVariants.{Roll};
+ghost use Rattle.hhm.specs.Reports.{roll_status};
 
 use crate::numbers::ListFault;
 use batch_store::SetupFault;
@@ -14,6 +16,7 @@ use mm_text::{MmFault, MmKind};
 use snap_export::{DifferenceFault, ExportFault};
 use snap_file::{FileFault, SaveFault, SnapFault};
 use snap_report::{CheckFault, FoldFault, LogFileFault, MakeFault};
+use snap_roll::RollFault;
 use std::alloc::AllocError;
 use std::process::ExitCode;
 use thiserror::Error;
@@ -33,6 +36,12 @@ pub enum Fault {
     /// The path that `fork` or `fold` is to make ends so.
     #[error("settings: BadPath (OUT)")]
     BadOut,
+    /// The path of the coarser file of `roll` ends so.
+    #[error("settings: BadPath (TO)")]
+    BadTo,
+    /// The path of a window's file of `roll` ends so.
+    #[error("settings: BadPath (FILE)")]
+    BadFile,
     /// Something is under the path that `fork` or `fold` is to make.
     #[error("file: Exists (OUT)")]
     Exists,
@@ -69,6 +78,9 @@ pub enum Fault {
     /// `export` wrote no difference of two snapshots, or not all of it.
     #[error(transparent)]
     Difference(DifferenceFault),
+    /// `roll` took no windows into a coarser file, or didn't report it.
+    #[error(transparent)]
+    Roll(RollFault),
 }
 
 impl From<SumFault> for Fault {
@@ -132,6 +144,14 @@ impl From<DifferenceFault> for Fault {
 
     fn from(fault: DifferenceFault) -> Fault {
         Fault::Difference(fault)
+    }
+}
+
+impl From<RollFault> for Fault {
+    ghost from_gives = { λ fault e. e ≡ Roll fault };
+
+    fn from(fault: RollFault) -> Fault {
+        Fault::Roll(fault)
     }
 }
 
@@ -228,6 +248,22 @@ fn difference_status(fault: DifferenceFault) -> u8
     }
 }
 
+/// The status of a fault of a roll.
+fn roll_status(fault: RollFault) -> u8
+    ensures { result ≡ roll_status fault }
+{
+    match fault {
+        RollFault::To(fault) => file_status(fault),
+        RollFault::ToHasWindow => 3,
+        RollFault::ToNotClosed => 3,
+        RollFault::File(_, fault) => file_status(fault),
+        RollFault::Refused(..) => 3,
+        RollFault::Memory => 5,
+        RollFault::Save(_) => 4,
+        RollFault::Output(_) => 4,
+    }
+}
+
 /// The status of a fault of a snapshot's file.
 fn file_status(fault: FileFault) -> u8
     ensures { result ≡ file_status fault }
@@ -281,6 +317,8 @@ impl Fault {
             Fault::BadPath => 2,
             Fault::BadLog => 2,
             Fault::BadOut => 2,
+            Fault::BadTo => 2,
+            Fault::BadFile => 2,
             Fault::Exists => 4,
             Fault::LogBusy => 4,
             Fault::NoRandom => 4,
@@ -312,6 +350,7 @@ impl Fault {
             Fault::Fold(FoldFault::Output(_)) => 4,
             Fault::Export(fault) => export_status(fault),
             Fault::Difference(fault) => difference_status(fault),
+            Fault::Roll(fault) => roll_status(fault),
         }
     }
 

@@ -1,1 +1,4 @@
 pub mod HasLemmas
+pub mod RollLemmas
+pub mod StepLemmas
+pub mod TellLemmas

@@ -1,1 +1,4 @@
 pub mod Has
+pub mod Rolls
+pub mod Held
+pub mod Steps

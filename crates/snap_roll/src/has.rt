@@ -49,8 +49,8 @@ fn found_at(list: &BookList, at: usize, client: u64, number: u64) -> Option<Foun
     })
 }
 
-// The batch of a client with a number, if a list has it.
-fn find(list: &BookList, client: u64, number: u64) -> Option<Found>
+/// The batch of a client with a number, if a list has it. One look at each entry.
+pub fn find(list: &BookList, client: u64, number: u64) -> Option<Found>
     ensures { IsSaid (accepted_in list.now) client number result }
 {
     'entries: for at in 0..count_of(list) {
