@@ -451,17 +451,19 @@ def names_run(program, folder, at):
     with open(saved, "wb") as file:
         file.write(EMPTY)
     refusing = Refusing("names", EIO, at)
+    # The end saves only what came since.
+    more, taken = (b"", b"") if at == 1 else (put_frame(9, 1, text(3)), accepted(2, 11))
     words = [program, "serve", "--unix", path, "--workers", "1", "--snapshot", saved, *SMALL]
     with subprocess.Popen(words, stdout=subprocess.PIPE, stderr=subprocess.PIPE, **refusing.how) as process:
         process.stdout.readline()
         answer = talk(path, ASKS)
         held = held_in(saved)
-        stopping = talk(path, STOP)
+        stopping = talk(path, more + STOP)
         output, error = process.communicate(timeout=SECONDS)
     told = Ended(output, error, process.returncode)
     wanted = [refused(42), STOPPED] if at == 1 else [REPLIES[-1], Ended(b"", b"hhm: file: Rename\n", 4)]
     found = [answer.removeprefix(b"".join(REPLIES[:-1])), told]
-    if (found, held, stopping, refusing.was_met()) == (wanted, SAVED, STOPPING, True):
+    if (found, held, stopping, refusing.was_met()) == (wanted, SAVED, taken + STOPPING, True):
         return None
     return found, held, stopping
 
