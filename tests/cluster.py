@@ -12,7 +12,6 @@ import os
 import random
 import signal
 import struct
-import subprocess
 import sys
 import threading
 import time
@@ -32,7 +31,6 @@ from hosts import SIZE, WAIT, Feeder, Hosts, added, batch, sum_in, until  # noqa
 from peers import Liar  # noqa: E402
 
 WAYS = ("source", "rows")
-EXAMPLES = os.path.join(os.path.dirname(os.path.abspath(__file__)), "..", "examples")
 # The first few rows of each of two servers, by rows, worked out from the golden ratio, 0x9E3779B97F4A7C15.
 # Of so many times that, modulo 2^64, the highest bit is the place: 0 for the rows 0, 2, 4, 5, and 1 for 1, 3, 6, 8.
 AT_0, AT_1 = (0, 2, 4, 5), (1, 3, 6, 8)
@@ -310,108 +308,6 @@ def a_used_number_is_told_by_an_empty_part():
         check("a used pair: books", hosts.books(), [(2, 2), (2, 0)])
 
 
-# What stands for systemctl: it notes its words, and starts and stops servers as hhm@.service has them.
-SYSTEMCTL = """\
-#!/bin/sh
-echo "$*" >>"$STATE/asked"
-what=$1
-shift
-for name; do
-    folder=$STATE/${name#hhm@} socket=$RUN/hhm-${name#hhm@}/hhm.sock
-    case $what in
-    start)
-        [ ! -S "$socket" ] && [ -e "$folder/sum.hhmlog" ] || continue
-        mkdir -p "${socket%/*}"
-        "$HHM" serve --unix "$socket" --rows 4294967296 --cols 4294967296 --snapshot "$folder/sum.snap" \\
-            --log "$folder/sum.hhmlog" >>"$STATE/said" 2>&1 &
-        ;;
-    stop)
-        [ ! -S "$socket" ] || "$HHMC" --unix "$socket" stop --discard >>"$STATE/said"
-        while [ -S "$socket" ]; do sleep 0.02; done
-        ;;
-    esac
-done
-"""
-
-
-class Hours:
-    """A folder of hours, and calls of hours.sh over it."""
-
-    def __init__(self, name):
-        self.state = os.path.join(server.FOLDER, name)
-        os.mkdir(self.state)
-        with open(self.path("systemctl"), "w") as file:
-            file.write(SYSTEMCTL)
-        os.chmod(file.name, 0o755)
-        self.words = {"SYSTEMCTL": file.name, "STATE": self.state, "RUN": self.path("run"), "HHM": server.PROGRAM,
-                      "HHMC": os.path.join(EXAMPLES, "..", "clients", "python", "hhm_client.py")}
-
-    def path(self, *names):
-        return os.path.join(self.state, *names)
-
-    def fill(self, hour, cells, saves, logged):
-        """An hour whose server took a batch and was killed. It saved before or behind it; else it has no snapshot."""
-        os.makedirs(self.path(hour))
-        with Hosts(f"hour {hour}", 1, logged=logged) as (host,):
-            with host.client(1) as hhm:
-                if saves == "before":
-                    hhm.save()
-                hhm.put(1, cells)
-                if saves == "behind":
-                    hhm.save()
-        for kind, name in [("snap", "sum.snap")] * bool(saves) + [("log", "sum.hhmlog")] * logged:
-            os.rename(f"{host.base}.{kind}", self.path(hour, name))
-
-    def call(self, now, **more):
-        """The status of a call at a time in seconds, and what it writes to standard error."""
-        words = {**os.environ, **self.words, "NOW": str(now), **more}
-        script = os.path.join(EXAMPLES, "systemd", "hours.sh")
-        ended = subprocess.run([script], env=words, capture_output=True, text=True, timeout=WAIT)
-        return ended.returncode, ended.stderr
-
-
-def hours_are_summed():
-    """What examples/systemd makes of the hours of a day, when it is over: of one without a log, one that saved, one
-    whose batches are in the log alone, beside a snapshot and without one. Each server that is needed is stopped again."""
-    hours, lists = Hours("hours"), [batch(1, number) for number in range(4)]
-    for place, saves in enumerate(["behind", "behind", "before", None]):
-        hours.fill(f"202611270{place}", lists[place], saves, logged=place > 0)
-    # 2026-11-28, at 01:55, 02:55 and 03:55: the day's last hour is ended at 02:55, and the next call sums it.
-    for now, is_summed in [(1795830900, False), (1795834500, False), (1795838100, True)]:
-        check("hours: status", hours.call(now), (0, ""))
-        check("hours: a day is summed", os.path.exists(hours.path("20261127.mtx")), is_summed)
-    with open(hours.path("20261127.mtx"), "rb") as text:
-        check("hours: the sum", sum_in(text.read()) == added(*lists), True)
-    with open(hours.path("asked")) as file:
-        asked = file.read().splitlines()
-    wanted = ["start hhm@2026112801 hhm@2026112802 hhm@2026112803 hhm@2026112804", "stop hhm@2026112800",
-              "start hhm@2026112702", "stop hhm@2026112702", "start hhm@2026112703", "stop hhm@2026112703"]
-    check("hours: servers", asked[-6:], wanted)
-
-
-def an_hour_that_cant_be_read_is_named():
-    """Without one of its hours a day isn't summed: a log is damaged, and a server can't save."""
-    hours, cells = Hours("bad hours"), batch(1, 1)
-    for place in range(2):
-        hours.fill(f"202611270{place}", cells, saves="before", logged=True)
-    log = hours.path("2026112701", "sum.hhmlog")
-    with open(log, "rb") as file:
-        text = file.read()
-    with open(log, "wb") as file:
-        file.write(text[:1] + b"\0" + text[2:])
-    status, error = hours.call(1795838100)
-    command = f"hhm check {hours.path('2026112701', 'sum.snap')} --log {log} failed"
-    check("a damaged log", (status, error.splitlines()[-1:]), (1, [f"hours.sh: 20261127 isn't summed: {command}"]))
-    with open(log, "wb") as file:
-        file.write(text)
-    os.mkdir(hours.path("2026112701", "sum.snap.new"))
-    open(hours.path("2026112701", "sum.snap.new", "full"), "w").close()
-    status, error = hours.call(1795924500, DAY="20261127")
-    said = "hours.sh: 20261127 isn't summed: hhm@2026112701 didn't save the batches of its log"
-    check("a save that fails", (status, error.splitlines()[-1:]), (1, [said]))
-    check("no sum", [name for name in os.listdir(hours.state) if name.endswith(".mtx")], [])
-
-
 class Rang(Exception):
     """What a handler of a signal raises."""
 
@@ -552,8 +448,6 @@ def all_are_tried():
     one_call_comes_after_the_other()
     an_interrupted_call_ends_soon()
     interrupted_calls_are_made_again()
-    hours_are_summed()
-    an_hour_that_cant_be_read_is_named()
     mirrors.all_are_tried()
     cluster_clients.all_are_tried()
     queues.all_are_tried()

@@ -141,7 +141,7 @@ def kubernetes():
 # systemd.
 
 UNITS = {
-    "systemd": ("hhm@.service", "hhm-hours.service", "hhm-hours.timer"),
+    "systemd": ("hhm@.service",),
     "windows": ("hhm-windows.service", "hhm-windows.timer", "hhm-rolled.service", "hhm-rolled.timer"),
 }
 
@@ -168,7 +168,6 @@ def systemd():
         print("not tried: the units by systemd: there is no systemd-analyze")
         return
     places = {"/usr/local/bin/hhm-run": f"{TOP}/tools/hhm-run",
-              "/usr/local/lib/hhm/hours.sh": f"{TOP}/examples/systemd/hours.sh",
               "/usr/local/lib/hhm/windows.sh": f"{TOP}/examples/windows/windows.sh",
               "/usr/local/lib/hhm/rolled.sh": f"{TOP}/examples/windows/rolled.sh"}
     folder = os.path.join(server.FOLDER, "units")
