@@ -295,7 +295,7 @@ def books_that_differ(folder):
             kept(folder, "old", snapshot([FIRST], 5, past=NONE, origin=old)),
         ]
         wanted = told("snapshot: OtherBook", 3) if is_other else (text_of(3, 3, {(0, 0): 3}), "", 0)
-        check(f"minus: {name}", minus(*paths), wanted)
+        check(f"minus: {name}", run(["export", paths[0], "--minus", paths[1], "--log", "-", "--log", "-"]), wanted)
 
 
 def entries_that_are_no_front(folder):

@@ -128,7 +128,8 @@ def answers_are_as_without(name, more, logged):
         fed(server, more_batches, BATCHES)
         asked(f"{name}, fed again", server, more_batches)
         server.stop(name, len(more_batches), total_of(more_batches))
-    check(f"{name}: the text", program("export", path), (spelled(ROWS, COLS, sum_of(more_batches)).decode(), "", 0))
+    text = program("export", path, *(["--log", path + ".log"] if logged else []))
+    check(f"{name}: the text", text, (spelled(ROWS, COLS, sum_of(more_batches)).decode(), "", 0))
 
 
 def told(hhm, *names):

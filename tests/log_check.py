@@ -562,7 +562,7 @@ def told_first(program):
         ]:
             case = Case(name, ["check", path, "--log", log_path], error=f"hhm: {told}\n", status=status)
             yield name, run(program, case)
-        for words in [["check", good.path, "--log"], ["check", good.path, "--log", ""], ["check", "--log", good.log]]:
+        for words in [["check", good.path, "--log"], ["check", good.path, "--log", ""], ["check", "--log", "-"]]:
             shown = " ".join(os.path.basename(word) for word in words)
             yield f"hhm {shown}", run(program, Case("", words, error=SOME, status=2))
 

@@ -466,8 +466,10 @@ def checked(name, path, fault, status, word="check"):
 
 
 def exported(program, path, held):
-    """What is wrong with the export of a snapshot."""
-    return run(program, Case("", ["export", path], output=Snapshot(held).text()))
+    """What is wrong with the export of a snapshot. A line says where it goes with a log, which isn't read."""
+    found = Snapshot(held)
+    lacks = f"hhm: {path} goes with a log: batches after it may be missing\n" if found.origin.log else ""
+    return run(program, Case("", ["export", path], output=found.text(), error=lacks))
 
 
 def snapshots(program):

@@ -134,7 +134,7 @@ def runs(folder):
             file.write(snapshot(batches, count * total, 11, 11, limit=10**9, most=1_000))
         line = f"rows 11 cols 11 shards 2 batches {count} total {count * total} entries {len(one)}\n"
         yield Run(name, ["check", path], b"", line.encode(), r"hhm: snapshot: Read\n")
-    yield logged_check(folder)
+    yield from logged_runs(folder)
     yield several_exported(folder)
     yield difference_exported(folder)
 
@@ -178,8 +178,8 @@ def is_more(cell, before):
     return cell[2] > 0 or cell[:2] not in {(row, col) for row, col, _ in before}
 
 
-def logged_check(folder):
-    """A snapshot of 40 batches, and a log of 60, of which it has 20."""
+def logged_runs(folder):
+    """A check and an export of a snapshot of 40 batches and a log of 60, of which it has 20."""
     setup = log_bytes.Setup(11, 11, (2, 4), 2, 10**9, 1_000)
     batches = [(7, number, summed(spread(40, 11))) for number in range(80)]
     entries = [log_bytes.entry_of(batch) for batch in batches]
@@ -192,7 +192,9 @@ def logged_check(folder):
         file.write(logged)
     output = f"{log_bytes.check_line(batches, setup)}\n{log_bytes.Log(logged).line()}\n"
     fault = r"hhm: (snapshot: Read|log: Read at page [0-9]+)\n"
-    return Run("check with a log", ["check", path, "--log", log_path], b"", output.encode(), fault)
+    yield Run("check with a log", ["check", path, "--log", log_path], b"", output.encode(), fault)
+    output = text_of(11, 11, summed([cell for _, _, cells in batches for cell in cells]))
+    yield Run("export with a log", ["export", path, "--log", log_path], b"", output, fault)
 
 
 class Refusing:

@@ -55,7 +55,7 @@ write_more() {
     [[ -n $before ]] || return 0
     text=$folder/$before-$name.mtx
     [[ ! -e $text ]] || return 0
-    "$hhm" export "$folder/$name.snap" --minus "$folder/$before.snap" >"$text.new"
+    "$hhm" export "$folder/$name.snap" --minus "$folder/$before.snap" --log - --log - >"$text.new"
     name_file "$text.new" "$text"
 }
 

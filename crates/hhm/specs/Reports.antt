@@ -23,7 +23,6 @@ use Rattle.snap_report.specs.declared.fault.CheckFault.{CheckFault}
 use Rattle.snap_report.specs.declared.fault.CheckFault.TheVariants as check
 use Rattle.snap_report.specs.declared.making.MakeFault.{MakeFault}
 use Rattle.snap_report.specs.declared.making.MakeFault.TheVariants as make
-use Rattle.snap_file.specs.declared.fault.SaveFault.{SaveFault}
 use Rattle.snap_file.specs.declared.fault.SaveFault.TheVariants as save
 use Rattle.snap_report.specs.declared.fault.FoldFault.{FoldFault}
 use Rattle.snap_report.specs.declared.fault.FoldFault.TheVariants as fold
@@ -107,7 +106,7 @@ make_status (make.Save fault) = 4
 make_status (make.Output fault) = 4
 
 abbrev pub export_status : ExportFault → ℕ
-export_status (export.File at fault) = file_status fault
+export_status (export.File at fault) = check_status fault
 export_status (export.DimensionsDiffer at) = 3
 export_status export.SumTooLarge = 3
 export_status export.Memory = 5
@@ -115,8 +114,8 @@ export_status (export.Output fault) = 4
 export_status (export.Save fault) = 4
 
 abbrev pub difference_status : DifferenceFault → ℕ
-difference_status (difference.New fault) = file_status fault
-difference_status (difference.Old fault) = file_status fault
+difference_status (difference.New fault) = check_status fault
+difference_status (difference.Old fault) = check_status fault
 difference_status difference.OtherBook = 3
 difference_status difference.DimensionsDiffer = 3
 difference_status (difference.NotBefore at) = 3
@@ -129,7 +128,7 @@ abbrev pub roll_status : RollFault → ℕ
 roll_status (roll.To fault) = file_status fault
 roll_status roll.ToHasWindow = 3
 roll_status roll.ToNotClosed = 3
-roll_status (roll.File at fault) = file_status fault
+roll_status (roll.File at fault) = check_status fault
 roll_status (roll.Refused at why) = 3
 roll_status roll.Memory = 5
 roll_status (roll.Save fault) = 4

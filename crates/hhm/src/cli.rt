@@ -50,16 +50,18 @@ output, where E is the number of cells of the sum of all batches:
 All have the rows and columns of the first, and K is of the first; a file that is
 named twice counts twice.
 
-With --log it reads the log in that file too, beside one PATH. The line is then of what the
-snapshot and the log hold together, and behind it stands another: the place of
-the log's first batch, how many batches it has, how many whole pages of 4096
-bytes with its head, and how many pages behind them aren't empty, which are of
-a block that was being written:
+With --log, given once for each PATH and in their order, the log in the file LOG is
+read too, and joined as a start joins both; LOG - is none, and a log may be asked
+alone, without a PATH. The line is then of what both have together. After one PATH
+or none there is a second line: the index of the log's first batch, how many batches
+it has, how many whole pages of 4096 bytes with its head, and how many pages after
+them aren't empty, which are of a block that was being written:
 
   log first F batches N pages P rest R
 
-Where a log is given, a snapshot that isn't there counts as an empty one. No
-file is changed, and no lock is taken.
+Where a log is given, a snapshot that isn't there counts as an empty one. No file is
+changed, and no lock is taken; files that a server has changed meanwhile are read
+again where they made a fault, three times at most.
 
 A fault is one line on standard error, which of several files ends with ' in FILE':
 
@@ -192,17 +194,6 @@ fn snapshot_command<'a>(
         .arg(path)
 }
 
-// `check`, which reads a log too.
-fn check_command<'a>(alloc: Global) -> Result<Command<'a>, AllocError> {
-    let log = Arg::new(alloc, "log")
-        .long("log")
-        .value_name("PATH")
-        .value_parser(ValueParser::NonEmptyString)
-        .help("The file of the log to read with it");
-    let check = snapshots_command(alloc, "check", CHECK_ABOUT, CHECK_HELP)?;
-    check.arg(log)
-}
-
 // `fold`, which reads a log too, and may make a file.
 fn fold_command<'a>(alloc: Global) -> Result<Command<'a>, AllocError> {
     let log = Arg::new(alloc, "log")
@@ -267,7 +258,10 @@ fn with<'a>(
 /// The command line of the program.
 pub fn command<'a>(alloc: Global) -> Result<Command<'a>, AllocError> {
     let mut hhm = with(program(alloc)?, sum_command(alloc))?;
-    hhm = with(hhm, check_command(alloc))?;
+    hhm = with(
+        hhm,
+        snapshots_command(alloc, "check", CHECK_ABOUT, CHECK_HELP),
+    )?;
     hhm = with(hhm, export_command(alloc))?;
     hhm = with(hhm, fold_command(alloc))?;
     hhm = with(hhm, fork_command(alloc))?;

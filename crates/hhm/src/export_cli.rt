@@ -1,7 +1,8 @@
 //! The word `export`, as `clap` reads it.
 
+use crate::query_cli::snapshots_command;
 use clap::builder::ValueParser;
-use clap::{Arg, ArgAction, Command};
+use clap::{Arg, Command};
 use std::alloc::{AllocError, Global};
 
 const EXPORT_ABOUT: &str =
@@ -30,6 +31,12 @@ the count has risen by, if it has. The batches of OLD are the first of PATH, fol
 or not. It is a text of counts by the time of their acceptance; with --compact it is
 saved in DIR as a sum is.
 
+With --log, given once for each PATH and then OLD, the log in the file LOG is
+read too, and joined as a start joins both; LOG - is none. A log may be asked alone,
+without a PATH. Without --log, a line on standard error says where PATH goes with a log:
+batches may be missing. No lock is taken; files that a server has changed
+meanwhile are read again where they made a fault, three times at most.
+
 Nothing is written unless all snapshots were read without a fault. A fault is one
 line on standard error, the first in the order of the files; where several are
 named it has ' in FILE' behind it, if it is of one:
@@ -40,6 +47,11 @@ named it has ' in FILE' behind it, if it is of one:
   hhm: snapshot: OtherBook         status 3 (of --minus, as the next two)
   hhm: snapshot: NotBefore at batch N      status 3
   hhm: snapshot: Falls at row R col C      status 3
+  hhm: log: NotFound, OpenFailed   status 4
+  hhm: log: KIND at page N         status 3 (KIND Read: 4)
+  hhm: settings: LogDiffers        status 2
+  hhm: log: OtherBook, LinkDiffers status 3
+  hhm: log: Gap, EntryDiffers, NotFresh at batch N  status 3
   hhm: sum: SumTooLarge            status 3
   hhm: file: Create, Write, Sync, Rename  status 4
   hhm: output failed after N bytes status 4
@@ -57,17 +69,7 @@ pub fn export_command<'a>(alloc: Global) -> Result<Command<'a>, AllocError> {
         .value_name("OLD")
         .value_parser(ValueParser::NonEmptyString)
         .help("Write what PATH has more than this earlier snapshot of its book");
-    let path = Arg::new(alloc, "path")
-        .value_name("PATH")
-        .required(true)
-        .action(ArgAction::Append)
-        .num_args(1..)
-        .value_parser(ValueParser::NonEmptyString)
-        .help("The snapshots' files");
-    Command::new(alloc, "export")
-        .about(EXPORT_ABOUT)
-        .after_help(EXPORT_HELP)
+    snapshots_command(alloc, "export", EXPORT_ABOUT, EXPORT_HELP)?
         .arg(compact)?
-        .arg(minus)?
-        .arg(path)
+        .arg(minus)
 }

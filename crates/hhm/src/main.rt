@@ -5,13 +5,13 @@
 //! `snap_roll` ask them, `socket_server` serves.
 #![tactic(auto)]
 
-ghost use Rattle.std.specs.Prelude.{◌<◌, length, IfOk};
+ghost use Rattle.std.specs.Prelude.{IfOk};
 ghost use Rattle.hhm.specs.Asked.{IsAsked};
 
 mod cli;
 mod export_cli;
-mod export_files;
 mod given;
+mod inputs;
 mod limits;
 mod log_report;
 mod memory;
@@ -19,6 +19,7 @@ mod numbers;
 mod path_host;
 mod query;
 mod query_cli;
+mod reading;
 mod report;
 mod roll_cli;
 mod roll_word;
@@ -28,12 +29,12 @@ mod streams;
 mod sum_files;
 mod told;
 
-use crate::export_files::{NamedSnapshots, file_of};
 use crate::given::numbers_of;
 use crate::memory::keep_freed_memory;
 use crate::numbers::read_list;
 use crate::path_host::PathHost;
-use crate::query::{number_of, range_of, side_of, top_query_of};
+use crate::query::number_of;
+use crate::reading::run_word;
 use crate::report::Fault;
 use crate::roll_word::{file_of_roll, roll_words};
 use crate::serve::{ServeOrder, order_of, status_of};
@@ -46,15 +47,10 @@ use clap::error::ErrorKind;
 use clap::{ArgMatches, Error};
 use mm_sum::{run_sum, run_sum_of};
 use progress::{Entries, ProgressLine, Watched};
-use snap_export::{NamedFolder, run_compact, run_compact_minus, run_export_minus, run_export_of};
 use snap_file::{FileFault, Identity, LockedFile, NamedFile, PathLock, lock, lock_existing};
-use snap_query::{
-    run_check_of, run_degrees, run_degrees_of, run_list, run_list_of, run_top, run_top_of,
-};
 use snap_report::{
-    CheckFault, MakeFault, NamedLog, NewFile, NewSnapshot, ReplacedFile, run_check,
-    run_check_with_log, run_export, run_fold, run_fold_to, run_fold_with_log, run_fork,
-    run_fork_with_log,
+    CheckFault, MakeFault, NamedLog, NewFile, NewSnapshot, ReplacedFile, run_fold, run_fold_to,
+    run_fold_with_log, run_fork, run_fork_with_log,
 };
 use snap_roll::run_has;
 use socket_server::{ServerFault, is_reserved};
@@ -127,7 +123,6 @@ fn run_matches(rt: &HostRuntime, matches: &ArgMatches) -> Result<Outcome, Fault>
     match matches.subcommand() {
         Some(("serve", given)) => Ok(Outcome::Serve(order_of(rt, rt.alloc(), given)?)),
         Some(("sum", given)) => Ok(Outcome::Ended(run_sum_word(rt, given))),
-        Some(("export", given)) => Ok(Outcome::Ended(run_export_word(rt, given))),
         Some(("fold", given)) => {
             run_fold_word(rt, given)?;
             Ok(Outcome::Ended(ExitCode::SUCCESS))
@@ -141,66 +136,6 @@ fn run_matches(rt: &HostRuntime, matches: &ArgMatches) -> Result<Outcome, Fault>
         Some((word, given)) => Ok(Outcome::Ended(run_word(rt, word, given))),
         None => Ok(Outcome::Ended(ExitCode::SUCCESS)),
     }
-}
-
-/// Does what a word asks for that is given the paths of snapshots, and says a fault in one line on standard error.
-fn run_word(rt: &HostRuntime, word: &str, given: &ArgMatches) -> ExitCode {
-    let names = given.get_strs("path").unwrap_or(&[]);
-    if given.get_str("log").is_some() && names.len() > 1 {
-        let _ = eprintln!(rt; "error: the argument '--log <LOG>' takes one PATH beside it");
-        return ExitCode::from(2);
-    }
-    end_reading(rt, names, ask_snapshots(rt, word, given, names))
-}
-
-/// Asks the snapshots in these files. How far the reading has come is said on a terminal.
-fn ask_snapshots(
-    rt: &HostRuntime,
-    word: &str,
-    given: &ArgMatches,
-    names: &[&str],
-) -> Result<(), Fault> {
-    let mut line = progress_line(rt, rt.stderr().is_terminal(), Entries::Cells);
-    let outcome = match names {
-        // The command line has one at least.
-        [] => Ok(()),
-        [path] => match given.get_str("log") {
-            Some(log) => run_check_word(rt, *path, log, &mut line),
-            None => run_snapshot_word(rt, word, *path, given, &mut line),
-        },
-        _ => run_span_word(rt, word, names, given, &mut line),
-    };
-    clear(&mut line);
-    outcome
-}
-
-/// Does what a word asks for that asks several snapshots together.
-fn run_span_word(
-    rt: &HostRuntime,
-    word: &str,
-    names: &[&str],
-    given: &ArgMatches,
-    line: &mut Shown<'_>,
-) -> Result<(), Fault>
-    requires { 0 < length names.now }
-{
-    let mut out = Counted::new(rt.stdout());
-    let mut files = NamedSnapshots::new(rt, names, line);
-    let count = names.len() as u64;
-    match word {
-        "check" => run_check_of(rt.alloc(), &mut files, count, &mut out)?,
-        "top" => run_top_of(
-            rt.alloc(),
-            &mut files,
-            count,
-            &mut out,
-            &top_query_of(given)?,
-        )?,
-        "list" => run_list_of(rt.alloc(), &mut files, count, &mut out, &range_of(given)?)?,
-        "degrees" => run_degrees_of(rt.alloc(), &mut files, count, &mut out, side_of(given))?,
-        _ => {}
-    }
-    Ok(())
 }
 
 /// Says whether the snapshot under a path has the batch of a client with a number: with status 1 where it hasn't.
@@ -224,13 +159,20 @@ fn run_has_word(rt: &HostRuntime, given: &ArgMatches) -> Result<ExitCode, Fault>
 fn run_roll_word(rt: &HostRuntime, given: &ArgMatches) -> ExitCode {
     let to = given.get_str("to").unwrap_or("");
     let words = given.get_strs("file").unwrap_or(&[]);
+    let logs = given.get_strs("log").unwrap_or(&[]);
+    if !logs.is_empty() && logs.len() != words.len() {
+        let _ = eprintln!(rt;
+            "error: the argument '--log <LOG>' is given once for each FILE, '-' for none"
+        );
+        return ExitCode::from(2);
+    }
     let mut line = progress_line(rt, rt.stderr().is_terminal(), Entries::Cells);
     let outcome = roll_words(rt, given, to, words, &mut line);
     clear(&mut line);
     match outcome {
         Ok(()) => ExitCode::SUCCESS,
         Err(fault) => {
-            let place = file_of_roll(&fault, to, words);
+            let place = file_of_roll(&fault, to, words, logs);
             let _ = eprintln!(rt; "hhm: {fault}{place}");
             fault.exit_code()
         }
@@ -290,171 +232,6 @@ fn sum_texts(
         let count = names.len() as u64;
         run_sum_of(rt.alloc(), &mut texts, count, &mut output, &cuts)?;
     }
-    Ok(())
-}
-
-/// Exports the snapshots that are named, or what the one that is named has more than another.
-fn run_export_word(rt: &HostRuntime, given: &ArgMatches) -> ExitCode {
-    let names = given.get_strs("path").unwrap_or(&[]);
-    match (given.get_str("minus"), names) {
-        (None, _) => end_reading(rt, names, export_named(rt, given, names)),
-        (Some(old), [new]) => {
-            let both = [*new, old];
-            end_reading(rt, &both, export_minus(rt, given, &both))
-        }
-        (Some(_), _) => {
-            let _ = eprintln!(rt; "error: the argument '--minus <OLD>' takes one PATH beside it");
-            ExitCode::from(2)
-        }
-    }
-}
-
-/// Says a fault of reading in one line on standard error, with the file that it is of where there are several.
-fn end_reading(rt: &HostRuntime, names: &[&str], outcome: Result<(), Fault>) -> ExitCode {
-    match outcome {
-        Ok(()) => ExitCode::SUCCESS,
-        Err(fault) => {
-            let place = file_of(&fault, names);
-            let _ = eprintln!(rt; "hhm: {fault}{place}");
-            fault.exit_code()
-        }
-    }
-}
-
-/// Exports the sum of the snapshots in these files. How far the reading has come is said on a terminal.
-fn export_named(rt: &HostRuntime, given: &ArgMatches, names: &[&str]) -> Result<(), Fault> {
-    let mut line = progress_line(rt, rt.stderr().is_terminal(), Entries::Cells);
-    let outcome = match given.get_str("compact") {
-        Some(folder) => save_compact(rt, names, folder, &mut line),
-        None => export(rt, names, &mut line),
-    };
-    clear(&mut line);
-    outcome
-}
-
-/// Exports what the snapshot in the first file has more than the one in the second. How far the reading has come is
-/// said on a terminal.
-fn export_minus(rt: &HostRuntime, given: &ArgMatches, names: &[&str]) -> Result<(), Fault> {
-    let mut line = progress_line(rt, rt.stderr().is_terminal(), Entries::Cells);
-    let outcome = match given.get_str("compact") {
-        Some(folder) => save_compact_minus(rt, names, folder, &mut line),
-        None => write_minus(rt, names, &mut line),
-    };
-    clear(&mut line);
-    outcome
-}
-
-/// Writes the difference to standard output.
-fn write_minus(rt: &HostRuntime, names: &[&str], line: &mut Shown<'_>) -> Result<(), Fault> {
-    let mut out = Counted::new(rt.stdout());
-    let mut files = NamedSnapshots::new(rt, names, line);
-    run_export_minus(rt.alloc(), &mut files, &mut out)?;
-    Ok(())
-}
-
-/// Saves the difference in a folder, without empty rows and columns.
-fn save_compact_minus(
-    rt: &HostRuntime,
-    names: &[&str],
-    path: &str,
-    line: &mut Shown<'_>,
-) -> Result<(), Fault> {
-    let mut files = NamedSnapshots::new(rt, names, line);
-    let mut folder = NamedFolder::new(rt, rt.alloc(), path)?;
-    let outcome = run_compact_minus(rt.alloc(), &mut files, &mut folder);
-    if outcome.is_err() {
-        folder.remove_unfinished();
-    }
-    outcome?;
-    Ok(())
-}
-
-/// Writes the sum of the snapshots in these files to standard output.
-fn export(rt: &HostRuntime, names: &[&str], line: &mut Shown<'_>) -> Result<(), Fault> {
-    let mut out = Counted::new(rt.stdout());
-    match names {
-        // The command line has one at least.
-        [] => {}
-        [path] => run_export(rt.alloc(), &mut NamedFile::new(rt, *path, line), &mut out)?,
-        _ => {
-            let mut files = NamedSnapshots::new(rt, names, line);
-            run_export_of(rt.alloc(), &mut files, names.len() as u64, &mut out)?;
-        }
-    }
-    Ok(())
-}
-
-/// Saves the sum of the snapshots in these files in a folder, without empty rows and columns.
-fn save_compact(
-    rt: &HostRuntime,
-    names: &[&str],
-    path: &str,
-    line: &mut Shown<'_>,
-) -> Result<(), Fault> {
-    // The command line has one at least.
-    if names.is_empty() {
-        return Ok(());
-    }
-    let mut files = NamedSnapshots::new(rt, names, line);
-    let mut folder = NamedFolder::new(rt, rt.alloc(), path)?;
-    let outcome = run_compact(rt.alloc(), &mut files, names.len() as u64, &mut folder);
-    if outcome.is_err() {
-        folder.remove_unfinished();
-    }
-    outcome?;
-    Ok(())
-}
-
-/// Does what a word asks for that reads the snapshot under a path.
-fn run_snapshot_word(
-    rt: &HostRuntime,
-    word: &str,
-    path: &str,
-    given: &ArgMatches,
-    line: &mut Shown<'_>,
-) -> Result<(), Fault> {
-    let mut out = Counted::new(rt.stdout());
-    match word {
-        "check" => run_check(rt.alloc(), &mut NamedFile::new(rt, path, line), &mut out)?,
-        _ => run_query_word(rt, word, path, given, line)?,
-    }
-    Ok(())
-}
-
-/// Does what a word asks for that asks the snapshot under a path.
-fn run_query_word(
-    rt: &HostRuntime,
-    word: &str,
-    path: &str,
-    given: &ArgMatches,
-    line: &mut Shown<'_>,
-) -> Result<(), Fault> {
-    let mut out = Counted::new(rt.stdout());
-    let mut file = NamedFile::new(rt, path, line);
-    match word {
-        "top" => run_top(rt.alloc(), &mut file, &mut out, &top_query_of(given)?)?,
-        "list" => run_list(rt.alloc(), &mut file, &mut out, &range_of(given)?)?,
-        "degrees" => run_degrees(rt.alloc(), &mut file, &mut out, side_of(given))?,
-        _ => {}
-    }
-    Ok(())
-}
-
-/// Reads the snapshot under a path and the log under another, and says what they hold together. How far the reading of
-/// the log has come is said where that of the snapshot is.
-fn run_check_word(
-    rt: &HostRuntime,
-    path: &str,
-    log_path: &str,
-    line: &mut Shown<'_>,
-) -> Result<(), Fault> {
-    let mut out = Counted::new(rt.stdout());
-    let mut log_line = progress_line(rt, line.is_some(), Entries::Cells);
-    let mut file = NamedFile::new(rt, path, line);
-    let mut log = NamedLog::new(rt, log_path, &mut log_line);
-    let outcome = run_check_with_log(rt.alloc(), &mut file, &mut log, &mut out);
-    clear(&mut log_line);
-    outcome?;
     Ok(())
 }
 

@@ -20,6 +20,9 @@ pub trait PathHost {
 
     /// Which folder a path is in: its device, and its number there. None where that can't be known.
     fn folder_id(&self, path: &str) -> Option<(u64, u64)>;
+
+    /// Which file is under a path: its device, and its number there. None where that can't be known.
+    fn file_id(&self, path: &str) -> Option<(u64, u64)>;
 }
 
 impl<R: Files<File = File> + Alloc> PathHost for R {
@@ -36,7 +39,11 @@ impl<R: Files<File = File> + Alloc> PathHost for R {
     }
 
     fn folder_id(&self, path: &str) -> Option<(u64, u64)> {
-        let found = fs::metadata(self, folder_of(path)).ok()?;
+        self.file_id(folder_of(path))
+    }
+
+    fn file_id(&self, path: &str) -> Option<(u64, u64)> {
+        let found = fs::metadata(self, path).ok()?;
         Some((found.dev(), found.ino()))
     }
 }

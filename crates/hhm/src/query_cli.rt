@@ -21,12 +21,23 @@ The row counts from 0, as in queries. With --cols the lines are of columns.
 Several files are asked together: of their sum. All have the rows and columns of
 the first; a file that is named twice counts twice.
 
+With --log, given once for each PATH and in their order, the log in the file LOG is
+read too, and joined as a start joins both; LOG - is none. A log may be asked alone,
+without a PATH. Without --log, a line on standard error says where PATH goes with a log:
+batches may be missing. No lock is taken; files that a server has changed
+meanwhile are read again where they made a fault, three times at most.
+
 A fault is one line on standard error, which of several files ends with ' in FILE':
 
   hhm: settings: BadNumber         status 2
   hhm: file: NotFound, OpenFailed  status 4
   hhm: snapshot: KIND              status 3 (KIND Read: 4)
   hhm: snapshot: DimensionsDiffer  status 3
+  hhm: log: NotFound, OpenFailed   status 4
+  hhm: log: KIND at page N         status 3 (KIND Read: 4)
+  hhm: settings: LogDiffers        status 2
+  hhm: log: OtherBook, LinkDiffers status 3
+  hhm: log: Gap, EntryDiffers, NotFresh at batch N  status 3
   hhm: sum: SumTooLarge            status 3
   hhm: output failed after N bytes status 4
   hhm: memory                      status 5";
@@ -43,12 +54,23 @@ queries, and are both in; the text counts from 1.
 Several files are asked together: of their sum. All have the rows and columns of
 the first; a file that is named twice counts twice.
 
+With --log, given once for each PATH and in their order, the log in the file LOG is
+read too, and joined as a start joins both; LOG - is none. A log may be asked alone,
+without a PATH. Without --log, a line on standard error says where PATH goes with a log:
+batches may be missing. No lock is taken; files that a server has changed
+meanwhile are read again where they made a fault, three times at most.
+
 A fault is one line on standard error, which of several files ends with ' in FILE':
 
   hhm: settings: BadNumber         status 2
   hhm: file: NotFound, OpenFailed  status 4
   hhm: snapshot: KIND              status 3 (KIND Read: 4)
   hhm: snapshot: DimensionsDiffer  status 3
+  hhm: log: NotFound, OpenFailed   status 4
+  hhm: log: KIND at page N         status 3 (KIND Read: 4)
+  hhm: settings: LogDiffers        status 2
+  hhm: log: OtherBook, LinkDiffers status 3
+  hhm: log: Gap, EntryDiffers, NotFresh at batch N  status 3
   hhm: sum: SumTooLarge            status 3
   hhm: output failed after N bytes status 4
   hhm: memory                      status 5";
@@ -68,11 +90,22 @@ With --cols the lines are of columns.
 Several files are asked together: of their sum. All have the rows and columns of
 the first; a file that is named twice counts twice.
 
+With --log, given once for each PATH and in their order, the log in the file LOG is
+read too, and joined as a start joins both; LOG - is none. A log may be asked alone,
+without a PATH. Without --log, a line on standard error says where PATH goes with a log:
+batches may be missing. No lock is taken; files that a server has changed
+meanwhile are read again where they made a fault, three times at most.
+
 A fault is one line on standard error, which of several files ends with ' in FILE':
 
   hhm: file: NotFound, OpenFailed  status 4
   hhm: snapshot: KIND              status 3 (KIND Read: 4)
   hhm: snapshot: DimensionsDiffer  status 3
+  hhm: log: NotFound, OpenFailed   status 4
+  hhm: log: KIND at page N         status 3 (KIND Read: 4)
+  hhm: settings: LogDiffers        status 2
+  hhm: log: OtherBook, LinkDiffers status 3
+  hhm: log: Gap, EntryDiffers, NotFresh at batch N  status 3
   hhm: sum: SumTooLarge            status 3
   hhm: output failed after N bytes status 4
   hhm: memory                      status 5";
@@ -98,7 +131,7 @@ Folded batches are found too. A fault is one line on standard error:
   hhm: output failed after N bytes status 4
   hhm: memory                      status 5";
 
-/// A word that reads the snapshots in files.
+/// A word that reads the snapshots in files, and the logs beside them.
 pub fn snapshots_command<'a>(
     alloc: Global,
     name: &'a str,
@@ -107,15 +140,22 @@ pub fn snapshots_command<'a>(
 ) -> Result<Command<'a>, AllocError> {
     let path = Arg::new(alloc, "path")
         .value_name("PATH")
-        .required(true)
         .action(ArgAction::Append)
         .num_args(1..)
         .value_parser(ValueParser::NonEmptyString)
-        .help("The snapshots' files");
+        .help("The snapshots' files")
+        .required_unless_present("log")?;
+    let log = Arg::new(alloc, "log")
+        .long("log")
+        .value_name("LOG")
+        .action(ArgAction::Append)
+        .value_parser(ValueParser::NonEmptyString)
+        .help("The log beside each PATH, in their order, - for none; or a log alone");
     Command::new(alloc, name)
         .about(about)
         .after_help(help)
-        .arg(path)
+        .arg(path)?
+        .arg(log)
 }
 
 // Whether rows or columns are told.

@@ -51,7 +51,7 @@ pub enum Fault {
     /// The system gives no random numbers, so no identity of a new book can be drawn.
     #[error("no random numbers")]
     NoRandom,
-    /// The paths of a server's snapshot and log lead to one name in one folder.
+    /// The paths of a server's snapshot and log lead to one name in one folder, or a FILE of `roll` leads to TO.
     #[error("settings: SamePath")]
     SamePath,
     /// A server's dimensions, cuts, shards or limits are out of range.
@@ -63,7 +63,7 @@ pub enum Fault {
     /// The same of several texts.
     #[error(transparent)]
     Texts(TextsFault),
-    /// `check` wrote no line, or `export` no text, or not all of it.
+    /// `check` of one snapshot wrote no line, or not all of it, or `has` didn't.
     #[error(transparent)]
     Check(CheckFault),
     /// `fold` saved no snapshot, or didn't tell it.
@@ -72,7 +72,8 @@ pub enum Fault {
     /// `fork`, or a `fold` with a log or into a new file, made no snapshot, or didn't report it.
     #[error(transparent)]
     Make(MakeFault),
-    /// `export` of several snapshots wrote no text, or not all of it, or it saved no compact matrix.
+    /// `export`, `top`, `list` or `degrees`, or `check` of several, wrote nothing, or not all of it, or `export` saved
+    /// no compact matrix.
     #[error(transparent)]
     Export(ExportFault),
     /// `export` wrote no difference of two snapshots, or not all of it.
@@ -220,9 +221,7 @@ fn export_status(fault: ExportFault) -> u8
     ensures { result ≡ export_status fault }
 {
     match fault {
-        ExportFault::File(_, FileFault::Snap(SnapFault::Read)) => 4,
-        ExportFault::File(_, FileFault::Snap(_)) => 3,
-        ExportFault::File(..) => 4,
+        ExportFault::File(_, fault) => check_status(fault),
         ExportFault::DimensionsDiffer(_) => 3,
         ExportFault::SumTooLarge => 3,
         ExportFault::Memory => 5,
@@ -236,8 +235,8 @@ fn difference_status(fault: DifferenceFault) -> u8
     ensures { result ≡ difference_status fault }
 {
     match fault {
-        DifferenceFault::New(fault) => file_status(fault),
-        DifferenceFault::Old(fault) => file_status(fault),
+        DifferenceFault::New(fault) => check_status(fault),
+        DifferenceFault::Old(fault) => check_status(fault),
         DifferenceFault::OtherBook => 3,
         DifferenceFault::DimensionsDiffer => 3,
         DifferenceFault::NotBefore(_) => 3,
@@ -256,7 +255,7 @@ fn roll_status(fault: RollFault) -> u8
         RollFault::To(fault) => file_status(fault),
         RollFault::ToHasWindow => 3,
         RollFault::ToNotClosed => 3,
-        RollFault::File(_, fault) => file_status(fault),
+        RollFault::File(_, fault) => check_status(fault),
         RollFault::Refused(..) => 3,
         RollFault::Memory => 5,
         RollFault::Save(_) => 4,

@@ -1,7 +1,9 @@
 //! The word `roll`: the files of closed windows, and the coarser file that they are taken into.
+ghost use Rattle.std.specs.Prelude.{◌<◌, length};
 
-use crate::export_files::NamedSnapshots;
+use crate::inputs::{Inputs, NamedLogs, NamedSnapshots, is_of_log};
 use crate::numbers::read_number;
+use crate::path_host::PathHost;
 use crate::path_to_read;
 use crate::query::number_of;
 use crate::report::Fault;
@@ -9,6 +11,7 @@ use crate::sum_files::Place;
 use byte_io::Counted;
 use clap::ArgMatches;
 use progress::{Unwatched, Watch};
+use snap_export::BesideLogs;
 use snap_file::{NO_WINDOW, NamedFile, PathLock, SaveFault, lock};
 use snap_roll::{RollFault, run_roll};
 use std::alloc::AllocError;
@@ -39,12 +42,17 @@ fn numbers_in(rt: &HostRuntime, words: &[&str]) -> Result<Vec<Option<u64>>, Faul
     Ok(numbers)
 }
 
-/// The windows' paths. None of their names may be one that hhm makes beside a file.
-fn paths_in<'a>(rt: &HostRuntime, words: &[&'a str]) -> Result<Vec<&'a str>, Fault> {
+/// The windows' paths. None of their names may be one that hhm makes beside a file, and none leads to the coarser file,
+/// which would be counted twice.
+fn paths_in<'a>(rt: &HostRuntime, to: &str, words: &[&'a str]) -> Result<Vec<&'a str>, Fault> {
     let mut paths = Vec::new(rt.alloc());
+    let to = rt.file_id(to);
     for word in words {
         let (_, path) = window_of(*word)?;
         let _found = path_to_read(rt, path, Fault::BadFile)?;
+        if to.is_some() && rt.file_id(path) == to {
+            return Err(Fault::SamePath);
+        }
         if paths.push(path).is_err() {
             return Err(Fault::from(AllocError));
         }
@@ -72,30 +80,57 @@ pub fn roll_words<W: Watch>(
     let client = number_of(given, "client")?;
     let numbers = numbers_in(rt, words)?;
     let path = path_to_read(rt, to, Fault::BadTo)?;
-    let paths = paths_in(rt, words)?;
+    let paths = paths_in(rt, path.as_str(), words)?;
     // The command line has one at least.
     if numbers.is_empty() {
         return Ok(());
     }
     let _lock = lock_to(rt, path.as_str())?;
+    let logs = given.get_strs("log").unwrap_or(&[]);
+    let inputs = Inputs::new(paths.as_slice(), logs);
+    roll_inputs(rt, path.as_str(), client, inputs, numbers.as_slice(), watch)
+}
+
+/// Takes windows into the file under a path, each with the log beside it where logs are given.
+fn roll_inputs<W: Watch>(
+    rt: &HostRuntime,
+    path: &str,
+    client: u64,
+    inputs: Inputs<'_>,
+    numbers: &[Option<u64>],
+    watch: &mut W,
+) -> Result<(), Fault>
+    requires { 0 < length numbers.now }
+{
     let mut out = Counted::new(rt.stdout());
     let mut unwatched = Unwatched;
-    let mut file = NamedFile::new(rt, path.as_str(), &mut unwatched);
-    let mut files = NamedSnapshots::new(rt, paths.as_slice(), watch);
-    run_roll(
-        rt.alloc(),
-        &mut file,
-        &mut files,
-        client,
-        numbers.as_slice(),
-        &mut out,
-    )?;
+    let mut file = NamedFile::new(rt, path, &mut unwatched);
+    let mut files = NamedSnapshots::new(rt, rt.alloc(), inputs, watch);
+    if inputs.logs.is_empty() {
+        run_roll(rt.alloc(), &mut file, &mut files, client, numbers, &mut out)?;
+        return Ok(());
+    }
+    let mut log_watch = Unwatched;
+    let mut logs = NamedLogs::new(rt, inputs.logs, &mut log_watch);
+    let mut pairs = BesideLogs::new(&mut files, &mut logs);
+    run_roll(rt.alloc(), &mut file, &mut pairs, client, numbers, &mut out)?;
     Ok(())
 }
 
 /// The file that a fault of a roll is of.
-pub fn file_of_roll<'a>(fault: &Fault, to: &'a str, words: &[&'a str]) -> Place<'a> {
+pub fn file_of_roll<'a>(
+    fault: &Fault,
+    to: &'a str,
+    words: &[&'a str],
+    logs: &[&'a str],
+) -> Place<'a> {
     let at = match fault {
+        Fault::Roll(RollFault::File(at, fault)) if is_of_log(fault) => {
+            return match logs.get(*at as usize) {
+                Some(log) => Place::In(*log),
+                None => Place::Nowhere,
+            };
+        }
         Fault::Roll(RollFault::File(at, _)) => *at,
         Fault::Roll(RollFault::Refused(at, _)) => *at,
         Fault::Roll(RollFault::To(_) | RollFault::ToHasWindow | RollFault::ToNotClosed) => {

@@ -5,3 +5,4 @@ pub mod CompactLemmas
 pub mod SavedLemmas
 pub mod LawLemmas
 pub mod MinusLemmas
+pub mod PairLemmas

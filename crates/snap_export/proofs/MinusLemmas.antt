@@ -20,8 +20,8 @@ use Rattle.mm_text.specs.Canonical.{canonical}
 use Rattle.mm_laws.specs.MatrixText.{matrix_text}
 use Rattle.mm_laws.proofs.CellsBuilt.{text_of_list}
 use Rattle.snap_file.specs.Snapshots.{Saved}
-use Rattle.snap_file.specs.declared.fault.FileFault.{FileFault}
 use Rattle.snap_file.specs.declared.fault.SaveFault.{SaveFault}
+use Rattle.snap_report.specs.declared.fault.CheckFault.{CheckFault}
 use Rattle.snap_export.specs.Minus.{sum_in, HasMore, IsUnsubtracted, fault_of, followed_by, more_text}
 use Rattle.snap_export.specs.Minus.{TellsMore, TellsDifference}
 use Rattle.snap_export.specs.declared.minus_fault.DifferenceFault.{DifferenceFault}
@@ -73,7 +73,7 @@ unsubtracted a b (minus.Falls row col) h = h row col refl
 unsubtracted a b minus.Memory h = tt
 
 -- what is told of the loads is told of an export
-pub more_told : {F : Type 0} (loads : F → ℕ → Result Saved FileFault → F → Type 0) (s t : F) (told : DifferenceFault) →
+pub more_told : {F : Type 0} (loads : F → ℕ → Result Saved CheckFault → F → Type 0) (s t : F) (told : DifferenceFault) →
     TellsMore loads s t told → TellsDifference loads s t told
 more_told loads s t (fault.New why) h = h
 more_told loads s t (fault.Old why) h = h
@@ -86,7 +86,7 @@ more_told loads s t (fault.Output why) h = tt
 more_told loads s t (fault.Save why) h = tt
 
 -- none of them is of a save
-pub no_save : {F : Type 0} (loads : F → ℕ → Result Saved FileFault → F → Type 0) (s t : F) (why : SaveFault) →
+pub no_save : {F : Type 0} (loads : F → ℕ → Result Saved CheckFault → F → Type 0) (s t : F) (why : SaveFault) →
     TellsMore loads s t (fault.Save why) → ⊥
 no_save loads s t why (inl h) = h
 no_save loads s t why (inr (inl h)) = h.3

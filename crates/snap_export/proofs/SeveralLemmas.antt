@@ -13,10 +13,10 @@ use Rattle.layer_compaction.proofs.LayerLemmas.{empty-ewise_add}
 use Rattle.batch_store.specs.Accepted.{summed}
 use Rattle.batch_store.specs.Books.{accepted_in}
 use Rattle.snap_file.specs.Snapshots.{Saved}
-use Rattle.snap_file.specs.declared.fault.SnapFault.TheVariants as snap
-use Rattle.snap_file.specs.declared.fault.FileFault.{FileFault}
-use Rattle.snap_file.specs.declared.fault.FileFault.TheVariants as file
 use Rattle.snap_report.specs.Kept.{HasLoaded, most_bytes}
+use Rattle.snap_report.specs.Logged.{IsReadFault}
+use Rattle.snap_report.specs.declared.fault.CheckFault.{CheckFault}
+use Rattle.snap_report.specs.declared.fault.CheckFault.TheVariants as check
 use Rattle.snap_export.specs.Several.{added_up, HaveLoaded, AddUp, AreUnsummed, CountsPass, TellsSum, Tells}
 use Rattle.snap_export.specs.Steps.{IsSumOf, AddsNext, TellsNext, HaveSummed, TellsRead, IsUnread}
 use Rattle.snap_export.specs.Told.{CompactTells}
@@ -96,12 +96,10 @@ stays_passed xs x h = omega (arith, h, total_behind xs x)
 pub nothing_summed : (rows cols : ℕ) (m : Matrix) → m ≡ matrix rows cols empty → IsSumOf rows cols [] (Some m)
 nothing_summed rows cols m is = is
 
-module _ {F : Type 0} (loads : F → ℕ → Result Saved FileFault → F → Type 0) where
-  pub unread_of : (s t : F) (number : ℕ) (told : FileFault) → told ≢ file.Snap snap.Memory → told ≢ file.Memory →
-      loads s most_bytes (Err told) t → IsUnread loads s t number (fault.File number told)
-  unread_of s t number file.Memory not other h = absurd (other refl)
-  unread_of s t number (file.Snap snap.Memory) not other h = absurd (not refl)
-  unread_of s t number told not other h = (refl, tt, h)
+module _ {F : Type 0} (loads : F → ℕ → Result Saved CheckFault → F → Type 0) where
+  pub unread_of : (s t : F) (number : ℕ) (told : CheckFault) → (told ≢ check.Memory → IsReadFault told) →
+      told ≢ check.Memory → loads s most_bytes (Err told) t → IsUnread loads s t number (fault.File number told)
+  unread_of s t number told read not h = (refl, read not, h)
 
   loaded_behind : (s t u : F) (rows cols : ℕ) (xs : List Saved) (x : Saved) → HaveLoaded loads s t rows cols xs →
       HasLoaded loads t u x → x.setup.rows ≡ rows → x.setup.cols ≡ cols →

@@ -6,3 +6,4 @@ pub mod Saved
 pub mod Files
 pub mod Told
 pub mod Minus
+pub mod Pairs

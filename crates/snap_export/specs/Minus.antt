@@ -32,9 +32,10 @@ use Rattle.batch_store.specs.Books.{accepted_in}
 use Rattle.mm_laws.specs.MatrixText.{matrix_text}
 use Rattle.snap_file.specs.Origins.{IsOtherBook}
 use Rattle.snap_file.specs.Snapshots.{Saved}
-use Rattle.snap_file.specs.declared.fault.FileFault.{FileFault}
-use Rattle.snap_file.specs.declared.fault.FileFault.TheVariants as file
-use Rattle.snap_report.specs.Kept.{HasLoaded, IsFileFault, most_bytes}
+use Rattle.snap_report.specs.Kept.{HasLoaded, most_bytes}
+use Rattle.snap_report.specs.Logged.{IsReadFault}
+use Rattle.snap_report.specs.declared.fault.CheckFault.{CheckFault}
+use Rattle.snap_report.specs.declared.fault.CheckFault.TheVariants as check
 use Rattle.snap_export.specs.declared.minus_fault.DifferenceFault.{DifferenceFault}
 use Rattle.snap_export.specs.declared.minus_fault.DifferenceFault.TheVariants as fault
 
@@ -92,20 +93,20 @@ IsUnsubtracted a b (fault.Falls row col) = IsFirstFall (sum_in a) (sum_in b) (ro
 IsUnsubtracted a b fault.Memory = Unit {0}
 IsUnsubtracted a b _ = ⊥
 
-module _ {F : Type 0} (loads : F → ℕ → Result Saved FileFault → F → Type 0) where
+module _ {F : Type 0} (loads : F → ℕ → Result Saved CheckFault → F → Type 0) where
   pub record HaveBoth (s t : F) (a b : Saved) : Type 0 where
     pub middle : F
     pub new : HasLoaded loads s middle a
     pub old : HasLoaded loads middle t b
 
   abbrev pub TellsNew : F → F → DifferenceFault → Type 0
-  TellsNew s t (fault.New told) = IsFileFault told × loads s most_bytes (Err told) t
-  TellsNew s t fault.Memory = loads s most_bytes (Err file.Memory) t
+  TellsNew s t (fault.New told) = IsReadFault told × loads s most_bytes (Err told) t
+  TellsNew s t fault.Memory = loads s most_bytes (Err check.Memory) t
   TellsNew s t _ = ⊥
 
   abbrev pub TellsOld : F → F → DifferenceFault → Type 0
-  TellsOld s t (fault.Old told) = IsFileFault told × loads s most_bytes (Err told) t
-  TellsOld s t fault.Memory = loads s most_bytes (Err file.Memory) t
+  TellsOld s t (fault.Old told) = IsReadFault told × loads s most_bytes (Err told) t
+  TellsOld s t fault.Memory = loads s most_bytes (Err check.Memory) t
   TellsOld s t _ = ⊥
 
   -- the first load was answered, and the fault says this of the next

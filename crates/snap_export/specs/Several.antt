@@ -23,9 +23,10 @@ use Rattle.batch_store.specs.Accepted.{summed}
 use Rattle.batch_store.specs.Books.{accepted_in}
 use Rattle.mm_laws.specs.MatrixText.{matrix_text}
 use Rattle.snap_file.specs.Snapshots.{Saved}
-use Rattle.snap_file.specs.declared.fault.FileFault.{FileFault}
-use Rattle.snap_file.specs.declared.fault.FileFault.TheVariants as file
-use Rattle.snap_report.specs.Kept.{HasLoaded, IsFileFault, most_bytes}
+use Rattle.snap_report.specs.Kept.{HasLoaded, most_bytes}
+use Rattle.snap_report.specs.Logged.{IsReadFault}
+use Rattle.snap_report.specs.declared.fault.CheckFault.{CheckFault}
+use Rattle.snap_report.specs.declared.fault.CheckFault.TheVariants as check
 use Rattle.snap_export.specs.declared.fault.ExportFault.{ExportFault}
 use Rattle.snap_export.specs.declared.fault.ExportFault.TheVariants as fault
 
@@ -44,7 +45,7 @@ added_options (o ∷ os) = plus o (added_options os)
 abbrev pub sum_text : ℕ → ℕ → List Saved → List ℕ
 sum_text rows cols xs = matrix_text (matrix rows cols (added_up xs))
 
-module _ {F : Type 0} (loads : F → ℕ → Result Saved FileFault → F → Type 0) where
+module _ {F : Type 0} (loads : F → ℕ → Result Saved CheckFault → F → Type 0) where
   abbrev pub HaveLoaded : F → F → ℕ → ℕ → List Saved → Type 0
   HaveLoaded s t rows cols [] = s ≡ t
   HaveLoaded s t rows cols (x ∷ xs) = (loaded : F) × HasLoaded loads s loaded x × (x.setup.rows ≡ rows)
@@ -73,7 +74,7 @@ module _ {F : Type 0} (loads : F → ℕ → Result Saved FileFault → F → Ty
     pub loaded : HaveLoaded s t rows cols xs
 
   -- this file wasn't loaded
-  pub record IsRefused (s t : F) (number : ℕ) (told : FileFault) : Type 0 where
+  pub record IsRefused (s t : F) (number : ℕ) (told : CheckFault) : Type 0 where
     pub behind : F
     pub before : HaveLoadedBefore s behind number
     pub refused : loads behind most_bytes (Err told) t
@@ -94,10 +95,10 @@ module _ {F : Type 0} (loads : F → ℕ → Result Saved FileFault → F → Ty
     pub cols : ℕ
     pub xs : List Saved
     pub loaded : HaveLoaded s behind rows cols xs
-    pub place : ((behind ≡ t) × (total (added_up xs) < 2 ^ 64)) ⊎ loads behind most_bytes (Err file.Memory) t
+    pub place : ((behind ≡ t) × (total (added_up xs) < 2 ^ 64)) ⊎ loads behind most_bytes (Err check.Memory) t
 
   abbrev pub TellsSum : F → F → ℕ → ExportFault → Type 0
-  TellsSum s t count (fault.File number told) = IsFileFault told × IsRefused s t number told
+  TellsSum s t count (fault.File number told) = IsReadFault told × IsRefused s t number told
   TellsSum s t count (fault.DimensionsDiffer number) = Differs s t number
   TellsSum s t count fault.SumTooLarge = CountsPass s t count
   TellsSum s t count fault.Memory = AreUnsummed s t

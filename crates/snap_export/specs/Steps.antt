@@ -3,9 +3,10 @@ use Rattle.std.specs.Prelude.{◌≡◌, ◌⊎◌, ℕ, ◌<◌, ◌≤◌, ◌
 use Rattle.hyper_matrix.specs.Counts.{total}
 use Rattle.hyper_matrix.specs.Matrix.{Matrix, matrix}
 use Rattle.snap_file.specs.Snapshots.{Saved}
-use Rattle.snap_file.specs.declared.fault.FileFault.{FileFault}
-use Rattle.snap_file.specs.declared.fault.FileFault.TheVariants as file
-use Rattle.snap_report.specs.Kept.{HasLoaded, IsFileFault, most_bytes}
+use Rattle.snap_report.specs.Kept.{HasLoaded, most_bytes}
+use Rattle.snap_report.specs.Logged.{IsReadFault}
+use Rattle.snap_report.specs.declared.fault.CheckFault.{CheckFault}
+use Rattle.snap_report.specs.declared.fault.CheckFault.TheVariants as check
 use Rattle.snap_export.specs.Several.{added_up, HaveLoaded, IsRefused, Differs, AreUnsummed}
 use Rattle.snap_export.specs.declared.fault.ExportFault.{ExportFault}
 use Rattle.snap_export.specs.declared.fault.ExportFault.TheVariants as fault
@@ -24,11 +25,11 @@ abbrev pub FitsBehind : Option Matrix → Saved → Type 0
 FitsBehind sum x = (rows cols : ℕ) (xs : List Saved) → IsSumOf rows cols xs sum →
     total (added_up (xs ++ x ∷ [])) < 2 ^ 64
 
-module _ {F : Type 0} (loads : F → ℕ → Result Saved FileFault → F → Type 0) where
+module _ {F : Type 0} (loads : F → ℕ → Result Saved CheckFault → F → Type 0) where
   -- what is told of a load of the file of this number
   abbrev pub IsUnread : F → F → ℕ → ExportFault → Type 0
-  IsUnread s t number (fault.File at told) = (at ≡ number) × IsFileFault told × loads s most_bytes (Err told) t
-  IsUnread s t number fault.Memory = loads s most_bytes (Err file.Memory) t
+  IsUnread s t number (fault.File at told) = (at ≡ number) × IsReadFault told × loads s most_bytes (Err told) t
+  IsUnread s t number fault.Memory = loads s most_bytes (Err check.Memory) t
   IsUnread s t number _ = ⊥
 
   -- a snapshot of these dimensions was loaded, and added to the sum of others
@@ -50,11 +51,11 @@ module _ {F : Type 0} (loads : F → ℕ → Result Saved FileFault → F → Ty
   -- what a fault says of the file of this number, behind snapshots of these dimensions
   abbrev pub TellsNext : List Saved → F → F → ℕ → ℕ → ℕ → ExportFault → Type 0
   TellsNext earlier s t rows cols number (fault.File at told) =
-      (at ≡ number) × IsFileFault told × loads s most_bytes (Err told) t
+      (at ≡ number) × IsReadFault told × loads s most_bytes (Err told) t
   TellsNext earlier s t rows cols number (fault.DimensionsDiffer at) = (at ≡ number)
       × ((x : Saved) × HasLoaded loads s t x × ((x.setup.rows ≡ rows) × (x.setup.cols ≡ cols) → ⊥))
   TellsNext earlier s t rows cols number fault.Memory =
-      loads s most_bytes (Err file.Memory) t ⊎ FitsNext earlier s t rows cols
+      loads s most_bytes (Err check.Memory) t ⊎ FitsNext earlier s t rows cols
   TellsNext earlier s t rows cols number fault.SumTooLarge = ⊥
   TellsNext earlier s t rows cols number (fault.Output told) = ⊥
   TellsNext earlier s t rows cols number (fault.Save told) = ⊥
@@ -68,7 +69,7 @@ module _ {F : Type 0} (loads : F → ℕ → Result Saved FileFault → F → Ty
 
   -- what a fault says of files that were loaded between s and t
   abbrev pub TellsRead : F → F → ExportFault → Type 0
-  TellsRead s t (fault.File number told) = IsFileFault told × IsRefused loads s t number told
+  TellsRead s t (fault.File number told) = IsReadFault told × IsRefused loads s t number told
   TellsRead s t (fault.DimensionsDiffer number) = Differs loads s t number
   TellsRead s t fault.Memory = AreUnsummed loads s t
   TellsRead s t fault.SumTooLarge = ⊥

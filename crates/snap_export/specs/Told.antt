@@ -7,7 +7,7 @@ use Rattle.std.specs.Prelude.{◌≡◌, ℕ, ◌<◌, List, length, Some, Resul
 use Rattle.std.specs.FinMap.{get}
 use Rattle.hyper_matrix.specs.Counts.{Counts, Place}
 use Rattle.snap_file.specs.Snapshots.{Saved}
-use Rattle.snap_file.specs.declared.fault.FileFault.{FileFault}
+use Rattle.snap_report.specs.declared.fault.CheckFault.{CheckFault}
 use Rattle.snap_export.specs.Labels.{label, label_lines}
 use Rattle.snap_export.specs.Compact.{compact_text}
 use Rattle.snap_export.specs.Saved.{FilePart}
@@ -19,7 +19,7 @@ use Rattle.snap_export.specs.declared.fault.ExportFault.TheVariants as fault
 abbrev pub compact_parts : List ℕ → List ℕ → Counts → List FilePart
 compact_parts rows cols n = parts_of (label_lines rows) (label_lines cols) (compact_text rows cols n)
 
-abbrev pub CompactTells : {F : Type 0} → (F → ℕ → Result Saved FileFault → F → Type 0) → F → F → ℕ → ExportFault →
+abbrev pub CompactTells : {F : Type 0} → (F → ℕ → Result Saved CheckFault → F → Type 0) → F → F → ℕ → ExportFault →
     Type 0
 CompactTells loads s t count (fault.Save told) = Unit {0}
 CompactTells loads s t count told = TellsSum loads s t count told

@@ -1,16 +1,18 @@
 //! Why the sum of several snapshots is not written.
 
 use byte_io::WriteFault;
-use snap_file::{FileFault, SaveFault};
+use snap_file::SaveFault;
+use snap_report::CheckFault;
 use std::alloc::AllocError;
 use thiserror::Error;
 
 /// Why the sum of several snapshots was not written. Files are counted from 0.
 #[derive(Clone, Copy, Debug, PartialEq, Eq, Error)]
 pub enum ExportFault {
-    /// This file could not be opened or read, or is no snapshot. The fault is never want of memory.
+    /// This file could not be opened or read, or is no snapshot, or the log beside it could not be read, or the two
+    /// don't belong together. The fault is neither want of memory nor of the output.
     #[error("{1}")]
-    File(u64, FileFault),
+    File(u64, CheckFault),
     /// This file is a snapshot, and has other dimensions than the first.
     #[error("snapshot: DimensionsDiffer")]
     DimensionsDiffer(u64),

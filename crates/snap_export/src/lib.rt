@@ -1,7 +1,8 @@
 //! What is made of whole snapshots for those who read on: `run_export_of` writes the canonical text of the sum of
 //! several, and `run_compact` saves it in a folder as a matrix without empty rows and columns, beside the numbers of
 //! those that it has. `run_export_minus` writes what a snapshot has more than an earlier one of the same book, and
-//! `run_compact_minus` saves it. `load_sum` gives the sum of several to those who ask it.
+//! `run_compact_minus` saves it. `load_sum` gives the sum of several to those who ask it. `BesideLogs` loads snapshots
+//! and the logs beside them for all of these.
 //!
 //! `specs/Several` says what the sum is, `specs/Compact` how rows and columns are numbered again, and `specs/Minus` when
 //! one snapshot goes on from another. A fault in a file, a total that passes 2^64 - 1 and want of memory are told
@@ -10,6 +11,7 @@
 
 mod axis;
 mod begun;
+mod beside_logs;
 mod compact;
 mod content;
 mod fault;
@@ -26,6 +28,7 @@ mod saving;
 mod several;
 
 pub use begun::count_of;
+pub use beside_logs::{BesideLogs, LogFiles};
 pub use compact::run_compact;
 pub use fault::ExportFault;
 pub use laws::{compact_matrix_reads_back, several_snapshots_add_up};

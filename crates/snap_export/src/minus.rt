@@ -26,8 +26,8 @@ use cells::Cell;
 use hyper_matrix::Hyper;
 use matrix_difference::{MinusFault, minus_cells};
 use mm_text::write_matrix;
-use snap_file::{FileFault, Snapshot};
-use snap_report::SNAPSHOT_BYTES;
+use snap_file::Snapshot;
+use snap_report::{CheckFault, SNAPSHOT_BYTES};
 use std::alloc::{AllocError, Global};
 
 /// Cells by row and then by column, and the dimensions within which they lie.
@@ -45,7 +45,7 @@ fn load_new<F: SnapshotFiles>(alloc: Global, files: &mut F) -> Result<Snapshot, 
 {
     match files.load_next(alloc, SNAPSHOT_BYTES) {
         Ok(snapshot) => Ok(snapshot),
-        Err(FileFault::Memory) => Err(DifferenceFault::Memory),
+        Err(CheckFault::Memory) => Err(DifferenceFault::Memory),
         Err(fault) => Err(DifferenceFault::New(fault)),
     }
 }
@@ -57,7 +57,7 @@ fn load_old<F: SnapshotFiles>(alloc: Global, files: &mut F) -> Result<Snapshot, 
 {
     match files.load_next(alloc, SNAPSHOT_BYTES) {
         Ok(snapshot) => Ok(snapshot),
-        Err(FileFault::Memory) => Err(DifferenceFault::Memory),
+        Err(CheckFault::Memory) => Err(DifferenceFault::Memory),
         Err(fault) => Err(DifferenceFault::Old(fault)),
     }
 }

@@ -2,19 +2,21 @@
 
 use byte_io::WriteFault;
 use matrix_difference::MinusFault;
-use snap_file::{FileFault, SaveFault};
+use snap_file::SaveFault;
+use snap_report::CheckFault;
 use std::alloc::AllocError;
 use thiserror::Error;
 
 /// Why the difference of two snapshots was not written.
 #[derive(Clone, Copy, Debug, PartialEq, Eq, Error)]
 pub enum DifferenceFault {
-    /// The later file could not be opened or read, or is no snapshot. The fault is never want of memory.
+    /// The later file could not be opened or read, or is no snapshot, or the log beside it could not be read, or the
+    /// two don't belong together. The fault is neither want of memory nor of the output.
     #[error("{0}")]
-    New(FileFault),
-    /// The same of the earlier file. The later one is a snapshot.
+    New(CheckFault),
+    /// The same of the earlier file. The later one was read.
     #[error("{0}")]
-    Old(FileFault),
+    Old(CheckFault),
     /// Both are snapshots, of known books, and the books or their windows differ.
     #[error("snapshot: OtherBook")]
     OtherBook,

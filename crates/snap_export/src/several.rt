@@ -14,9 +14,9 @@ ghost use Rattle.batch_store.specs.Accepted.{summed};
 ghost use Rattle.batch_store.specs.Books.{AreAccepted, accepted_in};
 ghost use Rattle.mm_laws.specs.MatrixText.{matrix_text};
 ghost use Rattle.snap_file.specs.Snapshots.{Saved, HasBase};
-ghost use Rattle.snap_file.specs.declared.fault.SnapFault.{SnapFault};
-ghost use Rattle.snap_file.specs.declared.fault.FileFault.{FileFault};
 ghost use Rattle.snap_report.specs.Kept.{HasLoaded};
+ghost use Rattle.snap_report.specs.Logged.{IsReadFault};
+ghost use Rattle.snap_report.specs.declared.fault.CheckFault.{CheckFault};
 ghost use Rattle.snap_export.specs.Several.{added_up, sum_text, AddUp, TellsSum, Tells, LeavesText};
 ghost use Rattle.snap_export.specs.Steps.{IsUnread, IsSumOf, Grows, FitsBehind, AddsNext, TellsNext};
 ghost use Rattle.snap_export.specs.Steps.{HaveSummed, TellsRead};
@@ -26,8 +26,8 @@ use batch_store::{BookList, Setup, with_batches};
 use byte_io::{Sink, WriteFault};
 use hyper_matrix::Hyper;
 use mm_text::TextWriter;
-use snap_file::{FileFault, Snapshot};
-use snap_report::{SNAPSHOT_BYTES, total_of_list};
+use snap_file::Snapshot;
+use snap_report::{CheckFault, SNAPSHOT_BYTES, total_of_list};
 use std::alloc::{AllocError, Global};
 
 /// Files, one behind the other, in each of which a snapshot is kept.
@@ -35,13 +35,13 @@ use std::alloc::{AllocError, Global};
 /// As of `SnapshotFile`, one call is a relation between what stands before it, its answer and what stands after it.
 pub trait SnapshotFiles {
     // What a load of at most so many bytes may answer, and what it leaves.
-    ghost load_gives: { Self → ℕ → Result Saved FileFault → Self → Type 0 };
+    ghost load_gives: { Self → ℕ → Result Saved CheckFault → Self → Type 0 };
 
-    /// Loads the snapshot in the next file, of at most `max_bytes` bytes.
-    fn load_next(&mut self, alloc: Global, max_bytes: u64) -> Result<Snapshot, FileFault>
+    /// Loads the snapshot in the next file, of at most `max_bytes` bytes, or what it and a log beside it have together.
+    fn load_next(&mut self, alloc: Global, max_bytes: u64) -> Result<Snapshot, CheckFault>
         ensures answer { load_gives self.old max_bytes result self.new }
-        // Want of memory is told as such.
-        ensures memory { IfErr result (λ f. f ≢ FileFault.Snap SnapFault.Memory) };
+        // A fault is of what was read, or want of memory, which is told as such.
+        ensures read { IfErr result (λ f. f ≢ CheckFault.Memory → IsReadFault f) };
 }
 
 // Loads the next snapshot, which is in the file of this number.
@@ -55,7 +55,7 @@ fn load_next<F: SnapshotFiles>(
 {
     match files.load_next(alloc, SNAPSHOT_BYTES) {
         Ok(snapshot) => Ok(snapshot),
-        Err(FileFault::Memory) => Err(ExportFault::Memory),
+        Err(CheckFault::Memory) => Err(ExportFault::Memory),
         Err(fault) => Err(ExportFault::File(number, fault)),
     }
 }

@@ -5,13 +5,10 @@ use Rattle.cells.specs.declared.cell.Cell.{Cell}
 use Rattle.hyper_matrix.specs.Counts.{Counts, Place}
 use Rattle.cells.specs.Order.{Rise}
 use Rattle.hyper_matrix.specs.Cells.{built_of, entry_of}
-use Rattle.batch_store.specs.Setups.{Setting}
-use Rattle.batch_store.specs.Accepted.{Accepted, summed}
 use Rattle.mm_text.specs.Canonical.{canonical}
 use Rattle.cell_queries.specs.declared.range.CellRange.{CellRange}
 use Rattle.cell_queries.specs.Ranges.{cells_in}
 use Rattle.mm_laws.specs.MatrixText.{cell_of}
-use Rattle.snap_query.specs.Queries.{list_text}
 use Rattle.snap_query.proofs.TurnLaws.{entries_of_list}
 
 -- the entries of the cells that pass a test are the entries that pass it
@@ -38,8 +35,3 @@ range_written rows cols r m cells list rises sum kept =
     ap (canonical rows cols)
     (sym (cells_again list) ∙ ap (map cell_of) (kept
     ∙ ap (cells_in r) (sym (entries_of_list cells rises) ∙ ap entries sum)))
-
-pub text_of_range : (s : Setting) (r : CellRange) (a : Accepted) (cells list : List Cell) → Rise cells →
-    built_of cells ≡ summed a → map entry_of list ≡ cells_in r (map entry_of cells) →
-    canonical s.rows s.cols list ≡ list_text s r a
-text_of_range s r a = range_written s.rows s.cols r (summed a)

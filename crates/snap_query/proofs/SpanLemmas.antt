@@ -12,10 +12,10 @@ use Rattle.mm_laws.specs.MatrixText.{cell_of}
 use Rattle.cell_queries.specs.declared.range.CellRange.{CellRange}
 use Rattle.cell_queries.specs.Ranges.{cells_in}
 use Rattle.snap_file.specs.Snapshots.{Saved}
-use Rattle.snap_file.specs.declared.fault.FileFault.{FileFault}
-use Rattle.snap_file.specs.declared.fault.FileFault.TheVariants as file
 use Rattle.snap_report.specs.Checks.{line_of}
 use Rattle.snap_report.specs.Kept.{most_bytes}
+use Rattle.snap_report.specs.declared.fault.CheckFault.{CheckFault}
+use Rattle.snap_report.specs.declared.fault.CheckFault.TheVariants as check
 use Rattle.snap_export.specs.Several.{added_up, HaveLoaded, AddUp, TellsSum}
 use Rattle.snap_export.specs.declared.fault.ExportFault.{ExportFault}
 use Rattle.snap_export.specs.declared.fault.ExportFault.TheVariants as fault
@@ -29,17 +29,17 @@ if_ok_with (Err e) f h = tt
 -- ---- files that are lent
 
 -- each load is one of the files below, which stay the ones that were lent, and is counted
-module _ {F S A : Type 0} (inner : F → ℕ → Result Saved FileFault → F → Type 0) (files : S → F) (name : S → A)
+module _ {F S A : Type 0} (inner : F → ℕ → Result Saved CheckFault → F → Type 0) (files : S → F) (name : S → A)
     (batches : S → ℕ) (shards : S → Option ℕ) where
-  abbrev pub outer : S → ℕ → Result Saved FileFault → S → Type 0
+  abbrev pub outer : S → ℕ → Result Saved CheckFault → S → Type 0
   outer s n answer t = (name t ≡ name s) × inner (files s) n answer (files t)
       × IsCounted (batches s) (shards s) answer (batches t) (shards t)
 
-  step : (s t : S) (n : ℕ) (answer : Result Saved FileFault) → outer s n answer t →
+  step : (s t : S) (n : ℕ) (answer : Result Saved CheckFault) → outer s n answer t →
       (name t ≡ name s) × inner (files s) n answer (files t)
   step s t n answer h = (h.0, h.1)
 
-  counts : (s t : S) (n : ℕ) (answer : Result Saved FileFault) → outer s n answer t →
+  counts : (s t : S) (n : ℕ) (answer : Result Saved CheckFault) → outer s n answer t →
       IsCounted (batches s) (shards s) answer (batches t) (shards t)
   counts s t n answer h = h.2
 
@@ -102,12 +102,12 @@ module _ {F S A : Type 0} (inner : F → ℕ → Result Saved FileFault → F �
         },
       )
     where
-      behind : {P : Type 0} → ((r.behind ≡ t) × P) ⊎ outer r.behind most_bytes (Err file.Memory) t →
+      behind : {P : Type 0} → ((r.behind ≡ t) × P) ⊎ outer r.behind most_bytes (Err check.Memory) t →
           (name t ≡ name r.behind)
-          × (((files r.behind ≡ files t) × P) ⊎ inner (files r.behind) most_bytes (Err file.Memory) (files t))
+          × (((files r.behind ≡ files t) × P) ⊎ inner (files r.behind) most_bytes (Err check.Memory) (files t))
       behind (inl p) = (ap name (sym p.0), inl (ap files p.0, p.1))
       behind (inr p) =
-          let last = step r.behind t most_bytes (Err file.Memory) p in
+          let last = step r.behind t most_bytes (Err check.Memory) p in
           (last.0, inr last.1)
   told_below s t count fault.SumTooLarge r =
       let below = loaded_below s t r.rows r.cols r.xs r.loaded in (

@@ -1,21 +1,13 @@
--- What is asked of a snapshot, and the lines of the answers.
+-- What is asked of a matrix, and the lines of the answers.
 --     by_side side m     the matrix, with rows and columns exchanged where columns are asked for
---     rows_in side a     the rows or columns of the sum of all that was accepted
 --     row_lines ts       a line for each row: its number, how many entries it has, and their total
 --     degree_lines ds    a line for each range: the fewest entries, the most, and how many rows have so many
---     list_text s r a    the text of the cells in a range, in the dimensions of the whole
 use Rattle.std.specs.Prelude.{ℕ, List, map, flat_map}
 use Rattle.std.specs.FinMap.{entries}
 use Rattle.hyper_matrix.specs.Counts.{Place, Counts, built}
-use Rattle.batch_store.specs.Setups.{Setting}
-use Rattle.batch_store.specs.Accepted.{Accepted, summed}
-use Rattle.mm_text.specs.Canonical.{numbers_line, canonical}
-use Rattle.mm_laws.specs.MatrixText.{cell_of}
+use Rattle.mm_text.specs.Canonical.{numbers_line}
 use Rattle.cell_queries.specs.declared.tally.RowTally.{RowTally}
 use Rattle.cell_queries.specs.declared.degrees.Degree.{Degree}
-use Rattle.cell_queries.specs.declared.range.CellRange.{CellRange}
-use Rattle.cell_queries.specs.Ranges.{cells_in}
-use Rattle.cell_queries.specs.Tallies.{tallies}
 use Rattle.snap_query.specs.declared.side.Side.{Side}
 use Rattle.snap_query.specs.declared.side.Side.TheVariants.{Rows, Cols}
 
@@ -25,9 +17,6 @@ turned e = ((e.0.1, e.0.0), e.1)
 abbrev pub by_side : Side → Counts → Counts
 by_side Rows m = m
 by_side Cols m = built (map turned (entries m))
-
-abbrev pub rows_in : Side → Accepted → List RowTally
-rows_in side a = tallies (entries (by_side side (summed a)))
 
 abbrev pub row_line : RowTally → List ℕ
 row_line t = numbers_line t.row t.entries t.total
@@ -40,6 +29,3 @@ degree_line d = numbers_line d.first d.last d.rows
 
 abbrev pub degree_lines : List Degree → List ℕ
 degree_lines ds = flat_map degree_line ds
-
-abbrev pub list_text : Setting → CellRange → Accepted → List ℕ
-list_text s r a = canonical s.rows s.cols (map cell_of (cells_in r (entries (summed a))))

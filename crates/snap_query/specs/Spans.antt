@@ -19,8 +19,8 @@ use Rattle.cell_queries.specs.declared.range.CellRange.{CellRange}
 use Rattle.cell_queries.specs.Ranges.{cells_in}
 use Rattle.cell_queries.specs.Tallies.{tallies}
 use Rattle.snap_file.specs.Snapshots.{Saved}
-use Rattle.snap_file.specs.declared.fault.FileFault.{FileFault}
 use Rattle.snap_report.specs.Checks.{line_of}
+use Rattle.snap_report.specs.declared.fault.CheckFault.{CheckFault}
 use Rattle.snap_export.specs.Several.{added_up}
 use Rattle.snap_query.specs.Queries.{by_side}
 use Rattle.snap_query.specs.declared.side.Side.{Side}
@@ -50,7 +50,7 @@ abbrev pub first_of : Option ℕ → ℕ → Option ℕ
 first_of (Some k) n = Some k
 first_of None n = Some n
 
-abbrev pub IsCounted : ℕ → Option ℕ → Result Saved FileFault → ℕ → Option ℕ → Type 0
+abbrev pub IsCounted : ℕ → Option ℕ → Result Saved CheckFault → ℕ → Option ℕ → Type 0
 IsCounted n k (Ok x) m l =
     (m ≡ min (n + count_in (accepted_in x.list)) (2 ^ 64 - 1)) × (l ≡ first_of k x.setup.shards)
 IsCounted n k (Err fault) m l = Unit {0}

@@ -3,7 +3,8 @@ ghost use Rattle.std.specs.Prelude.{◌≡◌, None, Ok, unwrap_or};
 ghost use Rattle.snap_query.specs.Spans.{IsCounted};
 
 use snap_export::{SnapshotFiles, count_of};
-use snap_file::{FileFault, Snapshot};
+use snap_file::Snapshot;
+use snap_report::CheckFault;
 use std::alloc::Global;
 
 /// Files, lent to one who loads them, and what was counted of those that were loaded.
@@ -64,7 +65,7 @@ impl<'a, F: SnapshotFiles> SnapshotFiles for Counting<'a, F> {
         × F.load_gives s.files.now max_bytes answer t.files.now
         × IsCounted s.batches s.shards answer t.batches t.shards };
 
-    fn load_next(&mut self, alloc: Global, max_bytes: u64) -> Result<Snapshot, FileFault> {
+    fn load_next(&mut self, alloc: Global, max_bytes: u64) -> Result<Snapshot, CheckFault> {
         let answer = self.files.load_next(alloc, max_bytes);
         if let Ok(snapshot) = &answer {
             self.add(snapshot);

@@ -1,4 +1,4 @@
-//! The questions of one snapshot, asked of several together: of the sum of what each of them adds up to.
+//! The questions that snapshots are asked together: of the sum of what each of them adds up to.
 ghost use Rattle.std.specs.Prelude.{◌≡◌, ℕ, ◌+◌, ◌<◌, ◌^◌, ◌⊎◌, List, Err, OnOk, IfOk, IfErr};
 ghost use Rattle.std.specs.FinMap.{entries};
 ghost use Rattle.byte_io.specs.Writing.{HasTaken, HasStopped};
@@ -58,7 +58,9 @@ fn degrees_of_sum(alloc: Global, sum: Hyper, side: Side) -> Result<Vec<Degree>, 
     degrees_of_cells(alloc, cells, side)
 }
 
-/// `run_top` of the sum of several snapshots of the same dimensions. A file that is given twice counts twice.
+/// Loads so many snapshots of the same dimensions, one after the other, and writes a line `row entries total` for each
+/// of the rows or columns of their sum that lead: its number, counted from 0, how many entries it has, and their total.
+/// A file that is given twice counts twice.
 ///
 /// Takes the memory and the time of `load_sum`, and then 24 bytes for each cell; for columns also time to sort the
 /// cells by column.
@@ -97,7 +99,8 @@ pub fn run_top_of<F: SnapshotFiles, W: Sink>(
     }
 }
 
-/// `run_list` of the sum of several snapshots of the same dimensions. A file that is given twice counts twice.
+/// The same, and writes the text of the cells in a range of their sum: a Matrix Market text in the dimensions of the
+/// whole, with the cells by row and then by column.
 ///
 /// Takes the memory of `load_sum`, and then 24 bytes for each cell; the time is that of `load_sum` and of the text's
 /// bytes. `w` is not flushed.
@@ -134,7 +137,8 @@ pub fn run_list_of<F: SnapshotFiles, W: Sink>(
     }
 }
 
-/// `run_degrees` of the sum of several snapshots of the same dimensions. A file that is given twice counts twice.
+/// The same, and writes a line `from to rows` for each range of numbers of entries that a row or column of their sum
+/// has: 1 to 1, 2 to 3, 4 to 7 and so on, and how many rows or columns have so many.
 ///
 /// Takes the memory and the time of `run_top_of`.
 ///

@@ -1,11 +1,9 @@
--- What `check` says of a snapshot, and what `export` writes of it.
+-- What `check` says of a snapshot.
 use Rattle.std.specs.Prelude.{ℕ, List, [], ◌∷◌, ◌++◌, codes, decimal}
 use Rattle.std.specs.FinMap.{len}
-use Rattle.hyper_matrix.specs.Matrix.{matrix}
 use Rattle.batch_store.specs.Setups.{Setting}
 use Rattle.batch_store.specs.Accepted.{Accepted, count_in, total_in, summed}
 use Rattle.snap_file.specs.declared.fault.FileFault.{FileFault}
-use Rattle.mm_laws.specs.MatrixText.{matrix_text}
 use Rattle.log_blocks.specs.declared.fault.LogFault.{LogFault}
 use Rattle.log_blocks.specs.declared.fault.LogKind.{LogKind}
 use Rattle.log_join.specs.declared.fault.JoinFault.{JoinFault}
@@ -29,10 +27,6 @@ abbrev pub fault_of_join : JoinFault → CheckFault
 fault_of_join JoinFault.Memory = CheckFault.Memory
 fault_of_join JoinFault.SetupDiffers = CheckFault.LogDiffers
 fault_of_join fault = CheckFault.Join fault
-
--- the canonical text of the sum of all that was accepted
-abbrev pub accepted_text : Setting → Accepted → List ℕ
-accepted_text s a = matrix_text (matrix s.rows s.cols (summed a))
 
 -- the line of these numbers
 abbrev pub line_of : ℕ → ℕ → ℕ → ℕ → ℕ → ℕ → List ℕ

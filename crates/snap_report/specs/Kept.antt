@@ -48,7 +48,7 @@ IsSaveFault _ = Unit {0}
 abbrev pub folded_in : Listing → Accepted
 folded_in list = folded_into (summed (accepted_in list)) (accepted_in list)
 
-abbrev pub HasLoaded : {F : Type 0} → (F → ℕ → Result Saved FileFault → F → Type 0) → F → F → Saved → Type 0
+abbrev pub HasLoaded : {F E : Type 0} → (F → ℕ → Result Saved E → F → Type 0) → F → F → Saved → Type 0
 HasLoaded loads s t x = loads s most_bytes (Ok x) t × AreAccepted x.setup (accepted_in x.list)
 
 abbrev pub IsAlone : GivenNumbers → Saved → Type 0

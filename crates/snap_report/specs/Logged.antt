@@ -15,16 +15,23 @@
 --     HasJoined .. x      so they have, and the list is that of both
 --     IsUnread            what is told of the snapshot's file alone
 --     IsJoinTold          what is told of a snapshot and a log that were read
+--     IsReadFault         a fault of a snapshot or a log: neither want of memory, nor of the output
+--     IsJoinOf found file x
+--                         x is what the snapshot, or nothing, and this log have together: the list of both, of the book
+--                         that is known of the two; a log goes with it only where it is of a window that isn't closed
+--     IsUnjoined found file fault
+--                         so the two don't belong together, or there was no memory
 --     IsLogTold           what is told of all: a fault of the snapshot's file where that is its answer, and the log isn't
 --                         read; a fault of the log's file where that is its answer; that they don't belong together where
 --                         both were read, and the join refuses them so
 use Rattle.std.specs.Prelude.{◌≡◌, ◌≢◌, ◌⊎◌, ℕ, ◌+◌, ◌≤◌, List, [], ◌∷◌, ◌++◌, length, codes, decimal}
-use Rattle.std.specs.Prelude.{Option, Some, None, Result, Ok, Err, true}
+use Rattle.std.specs.Prelude.{Option, Some, None, Result, Ok, Err, Bool, true, ◌&&◌, nat_lt}
 use Rattle.batch_store.specs.Setups.{Setting}
 use Rattle.batch_store.specs.Accepted.{unfolded}
 use Rattle.batch_store.specs.Books.{Listing, accepted_in, listed_in}
-use Rattle.snap_file.specs.Origins.{IsOtherBook, origin}
+use Rattle.snap_file.specs.Origins.{IsOtherBook, no_window, origin, own}
 use Rattle.snap_file.specs.Snapshots.{Saved, saved}
+use Rattle.snap_file.specs.declared.origin.Origin.{Origin}
 use Rattle.snap_file.specs.declared.fault.FileFault.{FileFault}
 use Rattle.snap_file.specs.declared.fault.FileFault.TheVariants as file
 use Rattle.log_page.specs.Pages.{IsBytes}
@@ -110,6 +117,14 @@ IsJoinFault join.Memory = ⊥
 IsJoinFault join.SetupDiffers = ⊥
 IsJoinFault _ = Unit {0}
 
+abbrev pub IsReadFault : CheckFault → Type 0
+IsReadFault (check.File fault) = IsFileFault fault
+IsReadFault (check.Log fault) = IsLogFault fault
+IsReadFault check.LogDiffers = Unit {0}
+IsReadFault (check.Join fault) = IsJoinFault fault
+IsReadFault check.Memory = ⊥
+IsReadFault (check.Output fault) = ⊥
+
 abbrev pub IsUnread : {F : Type 0} → (F → ℕ → Result Saved FileFault → F → Type 0) → F → F → CheckFault → Type 0
 IsUnread loads s t (check.File fault) = IsFileFault fault × (fault ≢ file.NotFound) × loads s most_bytes (Err fault) t
 IsUnread loads s t check.Memory = loads s most_bytes (Err file.Memory) t
@@ -120,6 +135,23 @@ IsJoinTold known file check.LogDiffers = AreRefused known file join.SetupDiffers
 IsJoinTold known file (check.Join fault) = IsJoinFault fault × AreRefused known file fault
 IsJoinTold known file check.Memory = Unit {0}
 IsJoinTold known file _ = ⊥
+
+-- a window whose file goes with a log isn't closed: the log may go on
+abbrev pub is_open : Origin → Bool
+is_open o = o.has_log && nat_lt o.identity.window no_window
+
+pub record IsJoinOf (found : Option Saved) (file : LogFile) (x : Saved) : Type 0 where
+  pub known : Saved
+  pub known_is : IsKnown found file.head known
+  pub joined : AreJoined known file x.list
+  pub setup_is : x.setup ≡ known.setup
+  pub origin_is : x.origin ≡
+      origin (own known.origin.identity file.head.identity known.origin.identity) (is_open known.origin)
+
+pub record IsUnjoined (found : Option Saved) (file : LogFile) (fault : CheckFault) : Type 0 where
+  pub known : Saved
+  pub known_is : IsKnown found file.head known
+  pub told : IsJoinTold known file fault
 
 -- what is told of the log's file, once the snapshot's has answered
 abbrev pub IsLogUnread : {L : Type 0} → (L → ℕ → Result LogFile LogFileFault → L → Type 0) → L → L → CheckFault → Type 0

@@ -16,6 +16,7 @@ use Rattle.snap_file.specs.Snapshots.{Saved, saved}
 use Rattle.snap_file.specs.declared.fault.FileFault.{FileFault}
 use Rattle.snap_file.specs.declared.origin.Origin.{Origin}
 use Rattle.snap_report.specs.Kept.{HasLoaded}
+use Rattle.snap_report.specs.declared.fault.CheckFault.{CheckFault}
 use Rattle.snap_roll.specs.Held.{IsOf, Reads, roll_of}
 use Rattle.snap_roll.specs.Rolls.{AreTakenIn, Begins, HaveRolled, IsRefused, Refuses, Roll, Takes, TellsAdded, TellsWindows}
 use Rattle.snap_roll.specs.Rolls.{Window, begun_roll, entry_of_window, first_setup, sum_of_window, window_of}
@@ -76,7 +77,7 @@ first_more : (ws : List Window) (w : Window) (f : Setting) → ((s : Setting) �
 first_more [] w f h s = h w.saved.setup
 first_more (v ∷ vs) w f h s = h s
 
-module _ {S : Type 0} (reads : S → ℕ → Result Saved FileFault → S → Type 0) (c : ℕ) where
+module _ {S : Type 0} (reads : S → ℕ → Result Saved CheckFault → S → Type 0) (c : ℕ) where
   rolled_more : (t : Setting) (gs : List (Option ℕ)) (ws : List Window) (u : S) (r : Roll) (m v : S) (q next : Roll)
       (g : Option ℕ) (w : Window) → HaveRolled reads c t gs ws u r m q → HasLoaded reads m v w.saved →
       Takes c t g w q next → HaveRolled reads c t (gs ++ g ∷ []) (ws ++ w ∷ []) u r v next

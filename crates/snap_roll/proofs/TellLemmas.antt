@@ -14,6 +14,7 @@ use Rattle.snap_file.specs.declared.fault.FileFault.{FileFault}
 use Rattle.snap_file.specs.declared.fault.SaveFault.{SaveFault}
 use Rattle.snap_file.specs.declared.origin.Origin.{Origin}
 use Rattle.snap_report.specs.Kept.{HasLoaded, folded_in, most_bytes}
+use Rattle.snap_report.specs.declared.fault.CheckFault.{CheckFault}
 use Rattle.snap_report.specs.Logged.{HasFound}
 use Rattle.snap_roll.specs.Held.{IsKeptFrom, IsUnkept, Reads, TellsKeep, added_in, roll_of}
 use Rattle.snap_roll.specs.Rolls.{Begins, HasRolled, HaveRolled, IsCoarser, IsKept, IsUnsaved, Made, TellsRoll}
@@ -54,7 +55,7 @@ loaded_seen loads s t y x is h accepted =
 
 module _ {F S : Type 0} (loads : F → ℕ → Result Saved FileFault → F → Type 0)
     (saves : F → Origin → Setting → Accepted → Result (Unit {0}) SaveFault → F → Type 0)
-    (reads : S → ℕ → Result Saved FileFault → S → Type 0) (c : ℕ) (gs : List (Option ℕ)) where
+    (reads : S → ℕ → Result Saved CheckFault → S → Type 0) (c : ℕ) (gs : List (Option ℕ)) where
   module _ (s m : F) (u v : S) (found : Option Saved) (x : Saved) (ws : List Window) (read : Read)
       (is_found : HasFound loads s m found) (begins : Begins (first_setup ws x.setup) found x) (is : Reads x read)
       (rolled : HaveRolled reads c x.setup gs ws u (begun_roll x) v (roll_of read.rolling)) where

@@ -52,7 +52,8 @@ use Rattle.snap_file.specs.declared.fault.SaveFault.{SaveFault}
 use Rattle.snap_file.specs.declared.origin.Identity.{Identity}
 use Rattle.snap_file.specs.declared.origin.Origin.{Origin}
 use Rattle.snap_report.specs.Kept.{HasLoaded, IsFileFault, IsSaveFault, folded_in, most_bytes}
-use Rattle.snap_report.specs.Logged.{HasFound}
+use Rattle.snap_report.specs.declared.fault.CheckFault.{CheckFault}
+use Rattle.snap_report.specs.Logged.{HasFound, IsReadFault}
 use Rattle.snap_report.specs.Made.{IsLeft}
 use Rattle.snap_roll.specs.Has.{IsAt, entry_at}
 use Rattle.snap_roll.specs.declared.has.Found.{Found}
@@ -144,7 +145,7 @@ pub record Takes (c : ℕ) (t : Setting) (g : Option ℕ) (w : Window) (r q : Ro
   pub book : q.book ≡ own r.book (book_in w.saved.origin.identity) r.book
   pub taken : IsTakenIn c r.state w q.state
 
-module _ {S : Type 0} (reads : S → ℕ → Result Saved FileFault → S → Type 0) (c : ℕ) (t : Setting) where
+module _ {S : Type 0} (reads : S → ℕ → Result Saved CheckFault → S → Type 0) (c : ℕ) (t : Setting) where
   -- one file after another was loaded, from u to v, and its window taken in
   abbrev pub HaveRolled : List (Option ℕ) → List Window → S → Roll → S → Roll → Type 0
   HaveRolled [] [] u r v q = (u ≡ v) × (r ≡ q)
@@ -209,7 +210,7 @@ abbrev pub begun_roll : Saved → Roll
 begun_roll x = roll unknown.identity (folded_in x.list)
 
 pub record HasRolled {F S : Type 0} (loads : F → ℕ → Result Saved FileFault → F → Type 0)
-    (reads : S → ℕ → Result Saved FileFault → S → Type 0) (c : ℕ) (gs : List (Option ℕ)) (s : F) (u v : S)
+    (reads : S → ℕ → Result Saved CheckFault → S → Type 0) (c : ℕ) (gs : List (Option ℕ)) (s : F) (u v : S)
     (x : Made F) : Type 0 where
   pub loaded : HasFound loads s x.loaded x.found
   pub begun : Begins (first_setup x.windows x.begun.setup) x.found x.begun
@@ -223,7 +224,7 @@ pub record IsKept {F : Type 0} (saves : F → Origin → Setting → Accepted �
       ⊎ ((0 < added) × saves x.loaded x.begun.origin x.begun.setup x.last.state (Ok tt) t)
 
 -- the file of this number was refused, once those before it were taken in
-pub record IsRefused {S : Type 0} (reads : S → ℕ → Result Saved FileFault → S → Type 0) (c : ℕ) (gs : List (Option ℕ))
+pub record IsRefused {S : Type 0} (reads : S → ℕ → Result Saved CheckFault → S → Type 0) (c : ℕ) (gs : List (Option ℕ))
     (found : Option Saved) (u v : S) (at : ℕ) (told : Refusal) : Type 0 where
   pub begun : Saved
   pub windows : List Window
@@ -238,16 +239,16 @@ pub record IsRefused {S : Type 0} (reads : S → ℕ → Result Saved FileFault 
   pub refused : Refuses c begun.setup given file state told
 
 -- the file of this number couldn't be read, once those before it were taken in
-abbrev pub IsUnread : {S : Type 0} → (S → ℕ → Result Saved FileFault → S → Type 0) → ℕ → List (Option ℕ) →
-    Option Saved → S → S → ℕ → FileFault → Type 0
+abbrev pub IsUnread : {S : Type 0} → (S → ℕ → Result Saved CheckFault → S → Type 0) → ℕ → List (Option ℕ) →
+    Option Saved → S → S → ℕ → CheckFault → Type 0
 IsUnread {S} reads c gs found u v at told =
-    IsFileFault told × (((at ≡ 0) × reads u most_bytes (Err told) v)
+    IsReadFault told × (((at ≡ 0) × reads u most_bytes (Err told) v)
     ⊎ ((begun : Saved) × (ws : List Window) × (state : Roll) × (place : S)
     × Begins (first_setup ws begun.setup) found begun
     × HaveRolled reads c begun.setup (take at gs) ws u (begun_roll begun) place state
     × reads place most_bytes (Err told) v))
 
-abbrev pub TellsWindows : {S : Type 0} → (S → ℕ → Result Saved FileFault → S → Type 0) → ℕ → List (Option ℕ) →
+abbrev pub TellsWindows : {S : Type 0} → (S → ℕ → Result Saved CheckFault → S → Type 0) → ℕ → List (Option ℕ) →
     Option Saved → S → S → RollFault → Type 0
 TellsWindows reads c gs found u v (fault.Refused at told) = IsRefused reads c gs found u v at told
 TellsWindows reads c gs found u v (fault.File at told) = IsUnread reads c gs found u v at told
@@ -274,15 +275,15 @@ TellsAdded c t g at x r fault.Memory = Unit {0}
 TellsAdded c t g at x r _ = ⊥
 
 -- what is told of the load of the window's file of a number
-abbrev pub TellsFile : {S : Type 0} → (S → ℕ → Result Saved FileFault → S → Type 0) → S → S → ℕ → RollFault → Type 0
-TellsFile reads u v at (fault.File number told) = (number ≡ at) × IsFileFault told × reads u most_bytes (Err told) v
+abbrev pub TellsFile : {S : Type 0} → (S → ℕ → Result Saved CheckFault → S → Type 0) → S → S → ℕ → RollFault → Type 0
+TellsFile reads u v at (fault.File number told) = (number ≡ at) × IsReadFault told × reads u most_bytes (Err told) v
 TellsFile reads u v at fault.Memory = Unit {0}
 TellsFile reads u v at _ = ⊥
 
 -- the coarser file was to be saved, since a window was new, and has answered so
 abbrev pub IsUnsaved : {F S : Type 0} → (F → ℕ → Result Saved FileFault → F → Type 0) →
     (F → Origin → Setting → Accepted → Result (Unit {0}) SaveFault → F → Type 0) →
-    (S → ℕ → Result Saved FileFault → S → Type 0) → ℕ → List (Option ℕ) → F → F → S → S → SaveFault → Type 0
+    (S → ℕ → Result Saved CheckFault → S → Type 0) → ℕ → List (Option ℕ) → F → F → S → S → SaveFault → Type 0
 IsUnsaved {F} loads saves reads c gs s t u v told =
     (x : Made F) × HasRolled loads reads c gs s u v x
     × (count_in (accepted_in x.begun.list) < count_in x.last.state)
@@ -290,14 +291,14 @@ IsUnsaved {F} loads saves reads c gs s t u v told =
 
 -- what is told before the coarser file is to be saved
 abbrev pub TellsUnrolled : {F S : Type 0} → (F → ℕ → Result Saved FileFault → F → Type 0) →
-    (S → ℕ → Result Saved FileFault → S → Type 0) → ℕ → List (Option ℕ) → F → F → S → S → RollFault → Type 0
+    (S → ℕ → Result Saved CheckFault → S → Type 0) → ℕ → List (Option ℕ) → F → F → S → S → RollFault → Type 0
 TellsUnrolled loads reads c gs s t u v told =
     IsLeft loads s t × (TellsTo loads s t told
     ⊎ ((found : Option Saved) × HasFound loads s t found × TellsWindows reads c gs found u v told))
 
 abbrev pub TellsRoll : {F S : Type 0} → (F → ℕ → Result Saved FileFault → F → Type 0) →
     (F → Origin → Setting → Accepted → Result (Unit {0}) SaveFault → F → Type 0) →
-    (S → ℕ → Result Saved FileFault → S → Type 0) → ℕ → List (Option ℕ) → F → F → S → S → RollFault → Type 0
+    (S → ℕ → Result Saved CheckFault → S → Type 0) → ℕ → List (Option ℕ) → F → F → S → S → RollFault → Type 0
 TellsRoll loads saves reads c gs s t u v (fault.Save told) =
     IsSaveFault told × IsUnsaved loads saves reads c gs s t u v told
 TellsRoll loads saves reads c gs s t u v fault.Memory =

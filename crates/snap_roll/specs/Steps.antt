@@ -7,13 +7,13 @@ use Rattle.batch_store.specs.Accepted.{count_in}
 use Rattle.batch_store.specs.Books.{accepted_in}
 use Rattle.batch_store.specs.Setups.{Setting}
 use Rattle.snap_file.specs.Snapshots.{Saved}
-use Rattle.snap_file.specs.declared.fault.FileFault.{FileFault}
 use Rattle.snap_file.specs.declared.origin.Origin.{Origin}
+use Rattle.snap_report.specs.declared.fault.CheckFault.{CheckFault}
 use Rattle.snap_roll.specs.Held.{roll_of}
 use Rattle.snap_roll.specs.Rolls.{Begins, HaveRolled, Window, begun_roll, first_setup}
 use Rattle.snap_roll.specs.declared.rolling.Rolling.{Rolling}
 
-pub record GoesOn {S : Type 0} (reads : S → ℕ → Result Saved FileFault → S → Type 0) (c : ℕ) (gs : List (Option ℕ))
+pub record GoesOn {S : Type 0} (reads : S → ℕ → Result Saved CheckFault → S → Type 0) (c : ℕ) (gs : List (Option ℕ))
     (found : Option Saved) (u v : S) (o : Origin) (had : ℕ) (r : Rolling) (at : ℕ) : Type 0 where
   pub begun : Saved
   pub windows : List Window

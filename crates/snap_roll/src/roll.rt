@@ -22,7 +22,7 @@ use batch_store::Setup;
 use byte_io::Sink;
 use snap_export::SnapshotFiles;
 use snap_file::{FileFault, Identity, NO_WINDOW, Origin, SaveFault, Snapshot, SnapshotFile};
-use snap_report::SNAPSHOT_BYTES;
+use snap_report::{CheckFault, SNAPSHOT_BYTES};
 use std::alloc::{AllocError, Global};
 
 /// A coarser file that was read: whose it is, how many batches it had, and what it is with the windows.
@@ -75,7 +75,7 @@ fn load_window<S: SnapshotFiles>(
 {
     match files.load_next(alloc, SNAPSHOT_BYTES) {
         Ok(snapshot) => Ok(snapshot),
-        Err(FileFault::Memory) => Err(RollFault::Memory),
+        Err(CheckFault::Memory) => Err(RollFault::Memory),
         Err(fault) => Err(RollFault::File(at, fault)),
     }
 }

@@ -2,6 +2,7 @@
 
 use byte_io::WriteFault;
 use snap_file::{FileFault, SaveFault};
+use snap_report::CheckFault;
 use std::alloc::AllocError;
 use thiserror::Error;
 
@@ -72,9 +73,10 @@ pub enum RollFault {
     /// A log goes with the coarser file: that may have more batches.
     #[error("snapshot: NotClosed")]
     ToNotClosed,
-    /// The file of this number, from 0, could not be opened or read, or is no snapshot. The fault is never want of memory.
+    /// The file of this number, from 0, could not be opened or read, or is no snapshot, or the log beside it could not
+    /// be read, or the two don't belong together. The fault is neither want of memory nor of the output.
     #[error("{1}")]
-    File(u64, FileFault),
+    File(u64, CheckFault),
     /// The file of this number is not taken in.
     #[error("snapshot: {1}")]
     Refused(u64, Refusal),

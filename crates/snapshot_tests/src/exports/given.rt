@@ -1,9 +1,14 @@
 //! Snapshots in memory, as files that keep them.
-ghost use Rattle.std.specs.Prelude.{◌≡◌, ⊤, IfSome};
+ghost use Rattle.std.specs.Prelude.{◌≡◌, ◌≢◌, ⊤, IfSome};
+ghost use Rattle.snap_file.specs.declared.fault.FileFault.{FileFault};
+ghost use Rattle.snap_file.specs.declared.fault.SnapFault.{SnapFault};
+ghost use Rattle.snap_report.specs.Logged.{IsReadFault};
+ghost use Rattle.snap_report.specs.declared.fault.CheckFault.{CheckFault};
 
 use byte_io::Script;
 use snap_export::SnapshotFiles;
 use snap_file::{FileFault, Snapshot, read_snapshot};
+use snap_report::CheckFault;
 use std::alloc::Global;
 use test_support::pieces;
 
@@ -66,27 +71,37 @@ fn script(alloc: Global, bytes: &[u8]) -> Option<Script>
     }
 }
 
+/// A fault of a file as it is told.
+fn told(fault: FileFault) -> CheckFault
+    requires { fault ≢ FileFault.Snap SnapFault.Memory }
+    ensures { result ≢ CheckFault.Memory → IsReadFault result }
+{
+    CheckFault::from(fault)
+}
+
 impl<'a> SnapshotFiles for Given<'a> {
     ghost load_gives = { λ s max_bytes answer t. ⊤ };
 
-    fn load_next(&mut self, alloc: Global, max_bytes: u64) -> Result<Snapshot, FileFault> {
+    fn load_next(&mut self, alloc: Global, max_bytes: u64) -> Result<Snapshot, CheckFault> {
         let file = self.loaded;
         self.loaded = file.wrapping_add(1);
         if let Some((at, refusal)) = self.refused {
             if at == file {
                 return match refusal {
-                    Refusal::Busy => Err(FileFault::Busy),
-                    Refusal::Memory => Err(FileFault::Memory),
+                    Refusal::Busy => Err(CheckFault::File(FileFault::Busy)),
+                    Refusal::Memory => Err(CheckFault::Memory),
                 };
             }
         }
         let Some(bytes) = self.files.get(file as usize) else {
-            return Err(FileFault::NotFound);
+            return Err(CheckFault::File(FileFault::NotFound));
         };
         let Some(mut source) = script(alloc, *bytes) else {
-            return Err(FileFault::Memory);
+            return Err(CheckFault::Memory);
         };
-        let snapshot = read_snapshot(alloc, &mut source, max_bytes)?;
-        Ok(snapshot)
+        match read_snapshot(alloc, &mut source, max_bytes) {
+            Ok(snapshot) => Ok(snapshot),
+            Err(fault) => Err(told(FileFault::from(fault))),
+        }
     }
 }

@@ -5,6 +5,7 @@ use crate::snapshots::bytes::{ONE, TWO};
 use byte_io::{Script, WriteFault};
 use snap_export::{ExportFault, run_export_of};
 use snap_file::{FileFault, SnapFault};
+use snap_report::CheckFault;
 use std::alloc::Global;
 use std::io::Eprint;
 use std::process::Abort;
@@ -67,7 +68,7 @@ fn faults_of_files(rt: HostRuntime) {
     let differs = Err(ExportFault::DimensionsDiffer(1));
     check(&rt, alloc, &[ONE, WIDE, MARK], differs, "", 2);
     let mark = FileFault::Snap(SnapFault::BadMark);
-    let bad = Err(ExportFault::File(1, mark));
+    let bad = Err(ExportFault::File(1, CheckFault::File(mark)));
     check(&rt, alloc, &[WIDE, MARK, ONE], bad, "", 2);
     let passes = Err(ExportFault::SumTooLarge);
     check(&rt, alloc, &[ONE, NONE, MOST, TWO], passes, "", 4);
@@ -81,7 +82,7 @@ fn files_that_are_not_loaded(rt: HostRuntime) {
     for file in 0..3u64 {
         let refused = Some((file, Refusal::Busy));
         let busy = ended(&rt, rt.alloc(), &[ONE, TWO, NONE], refused, None, b"");
-        let fault = ExportFault::File(file, FileFault::Busy);
+        let fault = ExportFault::File(file, CheckFault::File(FileFault::Busy));
         assert!(rt; same_at(&rt, &file, &busy, &(Err(fault), true, file + 1)));
         let refused = Some((file, Refusal::Memory));
         let lacks = ended(&rt, rt.alloc(), &[ONE, TWO, NONE], refused, None, b"");
