@@ -171,7 +171,7 @@ def image_is_of_the_tarball_alone(made):
     check("Dockerfile: one prefix", (places["bin"], places["lib/hhm"]), ("/usr/local/bin", "/usr/local/lib/hhm"))
     words = {name: json.loads(rest[rest.index("["):]) for name, rest in steps
              if name in ("ENTRYPOINT", "CMD", "HEALTHCHECK")}
-    check("Dockerfile: commands", (words["ENTRYPOINT"][0], words["HEALTHCHECK"][0]), ("hhm-run", "hhmc"))
+    check("Dockerfile: commands", (words["ENTRYPOINT"][0], words["HEALTHCHECK"]), ("hhm-run", ["hhm", "status", "/run/hhm/hhm.sock"]))
     _, known, _ = ran(server.PROGRAM, "serve", "--help")
     unknown = [it for it in words["ENTRYPOINT"] + words["CMD"] if it.startswith("--") and f" {it} " not in known]
     check("Dockerfile: options", unknown, [])

@@ -268,9 +268,9 @@ def server_of(wrapper):
 class Served:
     """A server that the installed `hhm-run` has started, at a Unix socket."""
 
-    def __init__(self, prefix, words, error=subprocess.PIPE, setup=SMALL, **how):
+    def __init__(self, prefix, words, error=subprocess.PIPE, setup=SMALL, by=(), **how):
         self.path = os.path.join(server.FOLDER, "socket")
-        words = [f"{prefix}/bin/hhm-run", f"--unix={self.path}", *setup, *words]
+        words = [*by, f"{prefix}/bin/hhm-run", f"--unix={self.path}", *setup, *words]
         how = {"preexec_fn": heed_signals, **how}
         self.process = subprocess.Popen(words, stdout=subprocess.PIPE, stderr=error, text=True,
                                         start_new_session=True, **how)
@@ -455,8 +455,11 @@ def a_refused_save_is_told(prefix):
     with Served(prefix, ["--snapshot", path]).listens() as at:
         os.makedirs(os.path.join(path + ".new", "full"))
         at.process.terminate()
-        said = f"{ENDS}hhm-run: the save was refused; the server tries once more at its end\nhhm: file: Create\n"
-        at.ends("a refused save", "", said, 4)
+        # (the wrapper and the server write these lines, each when it can)
+        said = {ENDS, "hhm-run: the save was refused; the server tries once more at its end\n", "hhm: file: Create\n"}
+        output, error = at.process.communicate(timeout=WAIT)
+        found = (output, set(error.splitlines(keepends=True)), at.process.returncode)
+        check("a refused save", found, ("", said, 4))
     check("a refused save: nothing is saved", in_snap(path), EMPTY)
 
 
@@ -481,9 +484,12 @@ def a_server_that_loads_is_ended_too(prefix):
     os.remove(path)
 
 
-# A program in the place of hhm: it refuses a Save and the first two Stops for want of memory, and ends at the third.
+# A program in the place of hhm: it refuses each Save and the first two Stops for want of memory, and ends at the third
+# Stop. The words of `end` it gives to the program.
 SHORT_OF_MEMORY = f"""#!{sys.executable}
-import socket, struct, sys
+import os, socket, struct, sys
+if sys.argv[1] == "end":
+    os.execv("PROGRAM", sys.argv)
 path = next(word.removeprefix("--unix=") for word in sys.argv if word.startswith("--unix="))
 with socket.socket(socket.AF_UNIX) as listener:
     listener.bind(path)
@@ -504,7 +510,7 @@ def a_refused_stop_is_asked_for_again(prefix):
     with tempfile.TemporaryDirectory(dir=server.FOLDER) as folder:
         shutil.copy(f"{prefix}/bin/hhm-run", folder)
         with open(os.path.join(folder, "hhm"), "w", encoding="utf-8") as file:
-            file.write(SHORT_OF_MEMORY)
+            file.write(SHORT_OF_MEMORY.replace("PROGRAM", server.PROGRAM))
         os.chmod(os.path.join(folder, "hhm"), 0o755)
         words = [os.path.join(folder, "hhm-run"), f"--unix={os.path.join(folder, 'socket')}", "--snapshot=x"]
         process = subprocess.Popen(words, stdout=subprocess.PIPE, stderr=subprocess.PIPE, text=True,
@@ -519,20 +525,47 @@ def a_refused_stop_is_asked_for_again(prefix):
         check("a refused stop: status", process.returncode, 0)
 
 
-def a_python_that_fails_is_said(prefix):
-    """Without python3 nobody asks the server to stop, which is said; it goes on, and a further signal kills it."""
-    said = "hhm-run: python3 failed, so the server wasn't asked to stop; a further signal kills it\n"
+def bash_is_enough(prefix):
+    """With bash and the core utilities alone on the path the server is ended in order."""
     with tempfile.TemporaryDirectory() as folder:
-        os.mkdir(f"{folder}/bin")
-        program_of(folder, "python3", "exit 1")
-        found = {**os.environ, "PATH": f"{folder}/bin:{os.environ['PATH']}"}
-        with Served(prefix, [], env=found).listens() as at, at.link() as link:
+        for name in ("bash", "dirname", "printf", "readlink", "sleep", "timeout"):
+            os.symlink(shutil.which(name), os.path.join(folder, name))
+        words, path = [shutil.which("bash")], os.path.join(server.FOLDER, "bash.snap")
+        with Served(prefix, ["--snapshot", path], by=words, env={"PATH": folder}).listens() as at:
+            with at.link() as link:
+                at.puts(link, 7, 5, 0, 5)
             at.is_told_to_end()
-            check("no python3: what it says", at.process.stderr.readline(), said)
-            at.puts(link, 7, 5, 0, 5)
-            time.sleep(1.1)
-            at.process.terminate()
-            at.ends("no python3: a further signal", "", KILLED, 128 + signal.SIGKILL)
+            at.ends("bash alone", "stopped batches 1 total 5\n", "", 0)
+        check("bash alone: the snapshot", in_snap(path), saved(5))
+        os.remove(path)
+
+
+# A program in the place of hhm: a server that ends by no request, and whose `end` gets no reply that is one.
+MUTE = """#!/bin/bash
+[[ $1 == end ]] && { echo "hhm: server: BadReply" >&2; exit 3; }
+echo listening
+exec sleep 100
+"""
+
+
+def an_answer_that_is_none_is_said(prefix):
+    """The server goes on, and a further signal kills it."""
+    said = "hhm-run: the server wasn't asked to stop (hhm: server: BadReply); a further signal kills it\n"
+    with tempfile.TemporaryDirectory(dir=server.FOLDER) as folder:
+        shutil.copy(f"{prefix}/bin/hhm-run", folder)
+        with open(os.path.join(folder, "hhm"), "w", encoding="utf-8") as file:
+            file.write(MUTE)
+        os.chmod(os.path.join(folder, "hhm"), 0o755)
+        words = [os.path.join(folder, "hhm-run"), f"--unix={os.path.join(folder, 'socket')}"]
+        process = subprocess.Popen(words, stdout=subprocess.PIPE, stderr=subprocess.PIPE, text=True,
+                                   preexec_fn=heed_signals)
+        check("no reply: it runs", process.stdout.readline(), "listening\n")
+        process.terminate()
+        check("no reply: what it says", (process.stderr.readline(), process.stderr.readline()), (ENDS, said))
+        time.sleep(1.1)
+        process.terminate()
+        output, error = process.communicate(timeout=WAIT)
+        check("no reply: a further signal", (output, error, process.returncode), ("", KILLED, 128 + signal.SIGKILL))
 
 
 def a_limit_of_a_file_refuses_puts(prefix):
@@ -675,7 +708,8 @@ def main():
         a_refused_save_is_told(prefix)
         a_server_that_loads_is_ended_too(prefix)
         a_refused_stop_is_asked_for_again(prefix)
-        a_python_that_fails_is_said(prefix)
+        bash_is_enough(prefix)
+        an_answer_that_is_none_is_said(prefix)
         a_limit_of_a_file_refuses_puts(prefix)
         a_limit_of_memory_is_enough_for_a_start(prefix)
         a_log_of_an_earlier_installation_goes_on(prefix)

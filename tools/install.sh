@@ -209,7 +209,7 @@ if [[ $how == uninstall ]]; then
     exit 0
 fi
 
-need python3 "for the client hhmc and hhm-run"
+need python3 "for the client hhmc"
 [[ $how != proved && $how != unproved ]] || need rt "to build: the toolchain of Rattle has it"
 mkdir -p "$root/bin" || fail "can't write below $root"
 [[ -w $root/bin ]] || fail "can't write into $root/bin"

@@ -1,6 +1,6 @@
 -- What the program tells: the fault that a list's fault is, and the status that it ends with, which is 2 for settings,
 -- 3 for what the text says, 4 for a device and 5 for memory.
-use Rattle.std.specs.Prelude.{ℕ}
+use Rattle.std.specs.Prelude.{ℕ, ◌==◌, if◌then◌else◌}
 use Rattle.mm_text.specs.declared.fault.MmKind.{MmKind}
 use Rattle.mm_text.specs.declared.fault.MmKind.TheVariants as kind
 use Rattle.mm_sum.specs.declared.fault.SumFault.{SumFault}
@@ -12,7 +12,9 @@ use Rattle.hhm.specs.declared.numbers.ListFault.TheVariants as list
 use Rattle.hhm.specs.declared.report.Fault.{Fault}
 use Rattle.hhm.specs.declared.report.Fault.TheVariants.{BadNumber, BadPath, BadLog, BadOut, Exists, LogBusy, NoRandom}
 use Rattle.hhm.specs.declared.report.Fault.TheVariants.{SamePath, Setup, Sum, Texts, Check, Fold, Make, Export}
-use Rattle.hhm.specs.declared.report.Fault.TheVariants.{Difference, BadTo, BadFile, Roll}
+use Rattle.hhm.specs.declared.report.Fault.TheVariants.{Difference, BadTo, BadFile, Roll, NotReached, Ask}
+use Rattle.ask_server.specs.declared.fault.AskFault.{AskFault}
+use Rattle.ask_server.specs.declared.fault.AskFault.TheVariants as ask
 use Rattle.snap_export.specs.declared.fault.ExportFault.{ExportFault}
 use Rattle.snap_export.specs.declared.fault.ExportFault.TheVariants as export
 use Rattle.snap_export.specs.declared.minus_fault.DifferenceFault.{DifferenceFault}
@@ -134,6 +136,12 @@ roll_status roll.Memory = 5
 roll_status (roll.Save fault) = 4
 roll_status (roll.Output fault) = 4
 
+abbrev pub ask_status : AskFault → ℕ
+ask_status ask.BadReply = 3
+ask_status (ask.Refused code) = if (code == 1) then 5 else 4
+ask_status ask.Memory = 5
+ask_status _ = 4
+
 abbrev pub fault_status : Fault → ℕ
 fault_status BadNumber = 2
 fault_status BadPath = 2
@@ -154,3 +162,5 @@ fault_status (Make fault) = make_status fault
 fault_status (Export fault) = export_status fault
 fault_status (Difference fault) = difference_status fault
 fault_status (Roll fault) = roll_status fault
+fault_status NotReached = 4
+fault_status (Ask fault) = ask_status fault

@@ -1,5 +1,6 @@
 //! The command line: the words of the program, as `clap` reads them.
 
+use crate::asking_cli::{end_command, status_command};
 use crate::export_cli::export_command;
 use crate::query_cli::{
     degrees_command, has_command, list_command, snapshots_command, top_command,
@@ -270,5 +271,7 @@ pub fn command<'a>(alloc: Global) -> Result<Command<'a>, AllocError> {
     hhm = with(hhm, degrees_command(alloc))?;
     hhm = with(hhm, has_command(alloc))?;
     hhm = with(hhm, roll_command(alloc))?;
+    hhm = with(hhm, status_command(alloc))?;
+    hhm = with(hhm, end_command(alloc))?;
     with(hhm, serve_command(alloc))
 }

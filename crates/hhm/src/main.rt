@@ -8,6 +8,8 @@
 ghost use Rattle.std.specs.Prelude.{IfOk};
 ghost use Rattle.hhm.specs.Asked.{IsAsked};
 
+mod asking;
+mod asking_cli;
 mod cli;
 mod export_cli;
 mod given;
@@ -29,6 +31,7 @@ mod streams;
 mod sum_files;
 mod told;
 
+use crate::asking::ask_word;
 use crate::given::numbers_of;
 use crate::memory::keep_freed_memory;
 use crate::numbers::read_list;
@@ -133,6 +136,10 @@ fn run_matches(rt: &HostRuntime, matches: &ArgMatches) -> Result<Outcome, Fault>
         }
         Some(("has", given)) => Ok(Outcome::Ended(run_has_word(rt, given)?)),
         Some(("roll", given)) => Ok(Outcome::Ended(run_roll_word(rt, given))),
+        Some((word @ ("status" | "end"), given)) => {
+            ask_word(rt, word, given)?;
+            Ok(Outcome::Ended(ExitCode::SUCCESS))
+        }
         Some((word, given)) => Ok(Outcome::Ended(run_word(rt, word, given))),
         None => Ok(Outcome::Ended(ExitCode::SUCCESS)),
     }

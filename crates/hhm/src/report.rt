@@ -4,10 +4,11 @@ ghost use Rattle.hhm.specs.Reports.{check_status, export_status, fault_of_list, 
 ghost use Rattle.hhm.specs.Reports.{difference_status, file_status, log_kind_status, texts_status};
 ghost use Rattle.mm_sum.specs.declared.fault.SumFault.TheVariants.{Memory, Output};
 ghost use Rattle.hhm.specs.declared.report.Fault.TheVariants.{Setup, Sum, Texts, Check, Fold, Make, Export, Difference};
-ghost use Rattle.hhm.specs.declared.report.Fault.TheVariants.{Roll};
-ghost use Rattle.hhm.specs.Reports.{roll_status};
+ghost use Rattle.hhm.specs.declared.report.Fault.TheVariants.{Ask, Roll};
+ghost use Rattle.hhm.specs.Reports.{ask_status, roll_status};
 
 use crate::numbers::ListFault;
+use ask_server::AskFault;
 use batch_store::SetupFault;
 use byte_io::WriteFault;
 use log_blocks::LogKind;
@@ -79,6 +80,12 @@ pub enum Fault {
     /// `export` wrote no difference of two snapshots, or not all of it.
     #[error(transparent)]
     Difference(DifferenceFault),
+    /// No server could be reached at the address of `status` or `end`.
+    #[error("server: NotReached")]
+    NotReached,
+    /// A server hasn't answered `status` or `end`, or not as it was asked.
+    #[error(transparent)]
+    Ask(AskFault),
     /// `roll` took no windows into a coarser file, or didn't report it.
     #[error(transparent)]
     Roll(RollFault),
@@ -153,6 +160,14 @@ impl From<RollFault> for Fault {
 
     fn from(fault: RollFault) -> Fault {
         Fault::Roll(fault)
+    }
+}
+
+impl From<AskFault> for Fault {
+    ghost from_gives = { λ fault e. e ≡ Ask fault };
+
+    fn from(fault: AskFault) -> Fault {
+        Fault::Ask(fault)
     }
 }
 
@@ -263,6 +278,18 @@ fn roll_status(fault: RollFault) -> u8
     }
 }
 
+/// The status of a fault of a server that was asked. It refuses for want of memory by code 1.
+fn ask_status(fault: AskFault) -> u8
+    ensures { result ≡ ask_status fault }
+{
+    match fault {
+        AskFault::BadReply => 3,
+        AskFault::Refused(1) => 5,
+        AskFault::Memory => 5,
+        _ => 4,
+    }
+}
+
 /// The status of a fault of a snapshot's file.
 fn file_status(fault: FileFault) -> u8
     ensures { result ≡ file_status fault }
@@ -350,6 +377,8 @@ impl Fault {
             Fault::Export(fault) => export_status(fault),
             Fault::Difference(fault) => difference_status(fault),
             Fault::Roll(fault) => roll_status(fault),
+            Fault::NotReached => 4,
+            Fault::Ask(fault) => ask_status(fault),
         }
     }
 

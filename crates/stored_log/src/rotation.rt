@@ -2,8 +2,12 @@
 ghost use Rattle.std.specs.Prelude.{◌≡◌, ◌↔◌, ◌+◌, ◌<◌, ◌^◌, Some, None, IfOk, IfErr, IfSome, OnOk, OnErr, true, false};
 ghost use Rattle.batch_store.specs.Accepted.{entries_in};
 ghost use Rattle.batch_store.specs.Books.{AreAccepted, accepted_in};
+ghost use Rattle.log_file.specs.Logs.{Log};
+ghost use Rattle.log_file.specs.Writer.{IsSettled};
 ghost use Rattle.log_folder.specs.Names.{KeepsName, HasTakenName, HasFailedToName};
 ghost use Rattle.log_folder.specs.declared.fault.RotateFault.{RotateFault};
+ghost use Rattle.log_join.specs.Joins.{known_entries};
+ghost use Rattle.log_start.specs.Records.{IsLogAs};
 ghost use Rattle.stored_log.specs.Kept.{HasFailed, WasSynced, is_failed, number_of};
 ghost use Rattle.stored_log.specs.Begun.{HasNotBegun};
 
@@ -38,6 +42,9 @@ pub fn begin_stored<F: LogFolder>(
     ensures works { IfOk result (λ s. is_failed F.Disk.in_doubt s.in_use ≡ false) }
     ensures synced { OnOk result (WasSynced F.Disk.telling F.Disk.tells F.Disk.written F.Disk.may_leave
         (entries_in (accepted_in list.now))) }
+    // The file is a log of this setup and this identity.
+    ensures log { IfOk result (λ s. IfSome s.in_use (λ o. (l : Log) × IsLogAs l setup.now identity (known_entries list.now)
+        × (F.tells folder.old → IsSettled F.Disk.written F.Disk.may_leave o.file.disk o.writer l))) }
     ensures made { F.tells folder.old → IfOk result (λ s. F.made folder.new ≡ number_of s.in_use) }
     ensures tells { F.tells folder.old ↔ F.tells folder.new }
     // The log in use stays the one that a loss of power leaves under the name.
