@@ -9,7 +9,7 @@ texts and as cells, with up to 64 on the way, and save meanwhile; it ends by SIG
 call, or by a Stop. In some stories the program is alone. In the others lose_power.c is loaded before it: calls fail in
 some lives, or move a part of their bytes, and between two lives the files may be made anew as a loss of power may leave
 them (disks.py); so are they at drawn moments of the life, for `hhm check` to read. Servers of two stories of three fold
-while they run.
+while they run, and those of two of three save by themselves.
 
 Starts are given no numbers, the files' or others: rows and columns grow, and the cuts, the shards, the limit and the
 most batches change in both directions, at times so that nothing more fits. Some starts are first given a number that is
@@ -136,6 +136,7 @@ class Story:
         self.begin, self.again = Start(Heads(None, None), {}), {}
         self.words = [server.PROGRAM, "serve", "--unix", self.socket, "--workers", "12", "--log", room.log]
         self.words += ["--snapshot", room.snap, "--fold-above", str((0, 20, 500)[seed % 3])]
+        self.words += ["--save-log-above", str((0, 1, 100_000)[seed // 3 % 3])]
         old = draw_old_files(self.draw)
         if old:
             old.write(room)

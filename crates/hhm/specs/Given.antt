@@ -82,6 +82,8 @@ pub record AreGiven (f : Found) (s : Settings) : Type 0 where
   pub compactors : IsNumber f (codes "compactors") s.compactors
   pub sessions : IsNumber f (codes "sessions") s.sessions
   pub fold_above : IsNumber f (codes "fold-above") s.fold_above
+  pub save_log_above : IsNumber f (codes "save-log-above") s.save_log_above
+  pub save_every : IsLimit f (codes "save-every") s.save_every
   pub lock_wait : IsLimit f (codes "lock-wait") s.lock_wait
   pub idle : IsLimit f (codes "idle") s.idle
   pub drain : IsLimit f (codes "drain") s.drain

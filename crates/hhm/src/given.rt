@@ -128,6 +128,8 @@ pub fn settings_of(alloc: Global, matches: &ArgMatches) -> Result<Settings, Faul
     let compactors = number_of(matches, "compactors")?;
     let sessions = number_of(matches, "sessions")?;
     let fold_above = number_of(matches, "fold-above")?;
+    let save_log_above = number_of(matches, "save-log-above")?;
+    let save_every = limit_of(matches, "save-every")?;
     let idle = limit_of(matches, "idle")?;
     let drain = limit_of(matches, "drain")?;
     let lock_wait = limit_of(matches, "lock-wait")?;
@@ -147,6 +149,8 @@ pub fn settings_of(alloc: Global, matches: &ArgMatches) -> Result<Settings, Faul
         lock_wait,
         sessions,
         fold_above,
+        save_log_above,
+        save_every,
         idle,
         drain,
         events: events_of(alloc, matches)?,

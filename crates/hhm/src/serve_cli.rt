@@ -14,8 +14,9 @@ const SERVE_HELP: &str = "\
 Writes 'listening tcp ADDRESS' and 'listening unix PATH' to standard output once
 it listens, and 'stopped batches B total T' at the end. A client ends it by a
 Stop. With --snapshot it starts from that file, if there is one, and saves what
-was accepted there, when a client asks for it and at the end; without --log,
-what came after the last save is lost if the process is killed. At a Unix
+was accepted there, when a client asks for it, by itself as --save-log-above and
+--save-every say, and at the end; without --log, what came after the last save
+is lost if the process is killed. At a Unix
 socket's path there must be nothing at the start, or a socket that nobody
 listens at, which is removed; it is removed at the end.
 
@@ -25,7 +26,7 @@ server is started again with the same --snapshot and --log. Each save begins the
 log anew behind the snapshot. Without --snapshot it grows, and nothing is saved.
 Where the disk is full, or a write failed, new batches are refused (LogFull,
 LogFailed) and the server goes on; after LogFailed a save makes it take batches
-again. Without --snapshot 'stopped' counts what is durable in the log, and a
+again, and with --snapshot it saves by itself then. Without --snapshot 'stopped' counts what is durable in the log, and a
 line says how many accepted batches aren't.
 
 Numbers of rows, columns, cuts, shards and limits that aren't given are those of
@@ -204,6 +205,19 @@ static OPTIONS: &[ServeOption] = &[
         value: "CELLS",
         default: Some("1048576"),
         help: "Add up what was accepted once batches have so many cells more; 0: never",
+        ..LEFT_OUT
+    },
+    ServeOption {
+        name: "save-log-above",
+        value: "BYTES",
+        default: Some("268435456"),
+        help: "Save once the log has more bytes, and more than the snapshot; 0: never",
+        ..LEFT_OUT
+    },
+    ServeOption {
+        name: "save-every",
+        value: "SECONDS",
+        help: "Save so long after the last such save what came since; 0: never, as without it",
         ..LEFT_OUT
     },
     ServeOption {

@@ -15,6 +15,7 @@ ghost use Rattle.locked_engine.specs.Versions.{IsVersion, version_status};
 use crate::engine::Engine;
 use crate::names::Named;
 use crate::seat::Seat;
+use crate::version::Version;
 use batch_store::{Batch, BookList, Shard};
 use hyper_matrix::RowSum;
 use plain_engine::Status;
@@ -149,8 +150,28 @@ impl<N: Named, H: Ledger> Engine<N, H> {
         ensures past { IfOk result (λ list. SharePast (accepted_in list) N.opened) }
         ensures shown { IfOk result (λ list. entries_in (accepted_in list) ≡ seat.new.seen) }
     {
+        self.list_for(rt, alloc, &mut seat.seen)
+    }
+
+    /// The same for one who has no seat, and who was shown this version. It is shown the entries.
+    ///
+    /// # Errors
+    ///
+    /// As for a seat.
+    pub fn list_for<R: Wait>(
+        &self,
+        rt: &R,
+        alloc: Global,
+        seen: &mut Version<N>,
+    ) -> Result<BookList, AllocError>
+        ensures later { IsPrefix seen.old seen.new }
+        ensures list { IfOk result (λ list. AreAccepted N.setup (accepted_in list)) }
+        ensures dims { IfOk result (λ list. list ≡ listed_in N.setup (accepted_in list)) }
+        ensures past { IfOk result (λ list. SharePast (accepted_in list) N.opened) }
+        ensures shown { IfOk result (λ list. entries_in (accepted_in list) ≡ seen.new) }
+    {
         let locked = self.book.lock(rt);
-        let list = locked.book_list(alloc, &mut seat.seen);
+        let list = locked.book_list(alloc, seen);
         let _ = MutexGuard::unlock(locked);
         list
     }

@@ -168,7 +168,17 @@ impl Counters {
         }
     }
 
-    // A save is answered.
+    /// A save that nobody asked for has ended, with so many batches, or has failed.
+    pub fn note_own_save(&self, clock: &impl Clock, saved: Option<u64>) {
+        match saved {
+            Some(batches) => self.note_save(clock, batches),
+            None => {
+                self.failed_saves.fetch_add(1, Ordering::SeqCst);
+            }
+        }
+    }
+
+    // A save has ended.
     fn note_save(&self, clock: &impl Clock, batches: u64) {
         let at = match self.age(clock) {
             Some(age) => millis(age).saturating_add(1),
@@ -209,7 +219,7 @@ impl Counters {
         number_at(&self.codes, place)
     }
 
-    /// How many saves were answered.
+    /// How many saves were made.
     pub fn saves(&self) -> u64 {
         self.saves.load(Ordering::SeqCst)
     }

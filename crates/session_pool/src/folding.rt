@@ -99,7 +99,10 @@ impl Folding {
     /// So many cells are put by one worker before it wakes the thread that folds. All workers together put some eighth
     /// of what a fold waits for before one of them does.
     pub(crate) fn waking_cells(&self) -> u64 {
-        self.above / 256
+        match self.above {
+            0 => u64::MAX,
+            above => above / 256,
+        }
     }
 
     // Whether a fold is due: the batches that it would fold have more cells than there may be, and more than the base
@@ -159,6 +162,28 @@ impl Folding {
             }
         }
         fold_once(rt, alloc, engine, saver, log, folder)
+    }
+
+    /// Folds all that was accepted by now before a save that nobody asked for, where anything is folded unasked. What
+    /// can't be folded is saved as it is.
+    pub(crate) fn fold_first<N: Named, H: Ledger, L: Log, R: Wait>(
+        &self,
+        rt: &R,
+        alloc: Global,
+        engine: &Engine<N, H>,
+        saver: &Saver,
+        desk: Option<&LogDesk<N, L>>,
+    )
+        requires { is_some desk ≡ is_some N.log }
+    {
+        if !self.is_on() {
+            return;
+        }
+        let mut log = desk.map(|desk| SessionLog::new(desk, desk.known(rt)));
+        let _ = self.fold_now(rt, alloc, engine, saver, &mut log);
+        if let Some(log) = log {
+            log.end(rt);
+        }
     }
 
     /// Folds where a fold is due, or goes on with what was sealed before and couldn't be folded. With a log it waits until

@@ -29,7 +29,7 @@ use locked_engine::{Named, Names, Status};
 use log_desk::Log;
 use log_folder::LogNews;
 use server_counters::{Counters, Machine};
-use session_pool::{Disk, LastFailure, LogPlace, Saver};
+use session_pool::{Disk, LastFailure, LogPlace, OwnSaves, Saver};
 use snap_file::{Identity, Origin};
 use std::alloc::Global;
 use std::marker::Brand;
@@ -314,6 +314,8 @@ fn plan_of(settings: Settings, identity: Identity, failure: SaveFailure, counter
         lock_wait: _,
         sessions,
         fold_above,
+        save_log_above,
+        save_every,
         idle,
         drain,
         events,
@@ -333,7 +335,11 @@ fn plan_of(settings: Settings, identity: Identity, failure: SaveFailure, counter
         saver: Saver::telling(snapshot, told)
             .with_log(log)
             .saving_as(Origin { identity, has_log })
-            .folding_above(fold_above),
+            .folding_above(fold_above)
+            .saving_itself(OwnSaves {
+                log_above: save_log_above,
+                every: time_limit(save_every),
+            }),
     }
 }
 
@@ -404,6 +410,9 @@ fn serve_settings<
 /// it. A batch is answered only once a sync of the log has made it durable. Each save begins the log anew behind the
 /// snapshot, the last one too; where that one fails the snapshot has all, and the next start does it.
 /// Without a snapshot the log is kept whole, and only grows.
+///
+/// Where the settings say so, what was accepted is saved though nobody asks for it, once the log is long, or so long after
+/// the last such save.
 ///
 /// It may wait for as long as clients keep their connections open, unless the settings have an idle limit or one for
 /// the time after a Stop: without them each session that was accepted is served to its own end.

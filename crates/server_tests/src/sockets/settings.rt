@@ -63,6 +63,8 @@ pub fn settings(rt: &impl Abort, alloc: Global, plan: &Plan) -> Settings {
         lock_wait: None,
         sessions: plan.sessions,
         fold_above: plan.fold_above,
+        save_log_above: 0,
+        save_every: None,
         idle: None,
         drain: None,
         events: None,
