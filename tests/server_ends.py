@@ -381,32 +381,140 @@ def refusals_are_told_each_minute():
                "refused code=41 count=1"])
 
 
-def nobody_reads_events():
-    """A full pipe as standard error keeps no session waiting, and the server ends as soon as it is read or closed."""
+# The bytes of a pipe that was filled.
+FILLER = b"\n" * 4096
+
+
+def full_pipe():
+    """A pipe that takes nothing more: the ends to read and to write."""
     reading, writing = os.pipe()
     os.set_blocking(writing, False)
     try:
         while True:
-            os.write(writing, bytes(4096))
+            os.write(writing, FILLER)
     except BlockingIOError:
         pass
     os.set_blocking(writing, True)
-    path = in_folder("unread")
-    process = subprocess.Popen([server.PROGRAM, "serve", "--unix", path, *SMALL, "--events"], stdout=subprocess.PIPE,
-                               stderr=writing, restore_signals=False)
+    os.set_blocking(reading, False)
+    return reading, writing
+
+
+def what_is_in(reading):
+    """What is in a pipe by now, without what it was filled with."""
+    held = b""
+    try:
+        while more := os.read(reading, 65536):
+            held += more
+    except BlockingIOError:
+        pass
+    return held.lstrip(b"\n").decode()
+
+
+@contextlib.contextmanager
+def unread_server(name, *words):
+    """A server whose standard error takes nothing, the end of that to read, and a connection."""
+    reading, writing = full_pipe()
+    path = in_folder(name)
+    process = subprocess.Popen([server.PROGRAM, "serve", "--unix", path, *SMALL, "--events", *words],
+                               stdout=subprocess.PIPE, stderr=writing, restore_signals=False)
     os.close(writing)
-    check("unread events: the line", process.stdout.readline(), f"listening unix {path}\n".encode())
+    check(f"{name}: the line", process.stdout.readline(), f"listening unix {path}\n".encode())
     with socket.socket(socket.AF_UNIX) as link:
         link.settimeout(WAIT)
         link.connect(path)
-        check("unread events: put", asked(link, put_frame(7, 1, text(5)), 21), accepted(0, 5))
-        for n in range(1000):
-            check(f"unread events: {n}", asked(link, put_frame(7, 1, text(6)), 15), refused(30))
-        check("unread events: stop", asked(link, STOP, 5), STOPPING)
-    check("unread events: the last line", process.stdout.readline(), b"stopped batches 1 total 5\n")
-    os.close(reading)
-    check("unread events: the end", process.wait(WAIT), 0)
+        yield process, reading, link
     process.stdout.close()
+    os.close(reading)
+
+
+def ends_soon(name, process, status):
+    """A server that was stopped ends with this status, though nobody reads. It would wait for ever, and is killed."""
+    begun = time.monotonic()
+    try:
+        process.wait(8)
+    except subprocess.TimeoutExpired:
+        process.kill()
+    check(f"{name}: the end", (process.wait(), time.monotonic() - begun < 6), (status, True))
+
+
+def nobody_reads_events():
+    """A full pipe as standard error keeps no session waiting, and the server ends, with the status of a fault too."""
+    with unread_server("unread") as (process, reading, link):
+        check("unread: put", asked(link, put_frame(7, 1, text(5)), 21), accepted(0, 5))
+        for n in range(1000):
+            check(f"unread: {n}", asked(link, put_frame(7, 1, text(6)), 15), refused(30))
+        check("unread: stop", asked(link, STOP, 5), STOPPING)
+        link.close()
+        check("unread: the last line", process.stdout.readline(), b"stopped batches 1 total 5\n")
+        ends_soon("unread", process, 0)
+        check("unread: nothing was written", what_is_in(reading), "")
+    path = in_folder("unread snap")
+    with unread_server("unread fault", "--snapshot", path) as (process, reading, link):
+        os.mkdir(path + ".new")
+        check("unread fault: put", asked(link, put_frame(7, 1, text(5)), 21), accepted(0, 5))
+        check("unread fault: stop", asked(link, STOP, 5), STOPPING)
+        link.close()
+        ends_soon("unread fault", process, 4)
+        check("unread fault: nothing was written", what_is_in(reading), "")
+    os.rmdir(path + ".new")
+
+
+def lines_that_are_dropped_are_counted():
+    """Once standard error takes lines again, it gets the number of those that were dropped, and those that follow."""
+    path = in_folder("dropped snap")
+    size = len(program.snapshot([(7, 1, [(0, 0, 5)])], 5, past=program.NONE))
+    with unread_server("dropped", "--snapshot", path) as (process, reading, link):
+        check("dropped: put", asked(link, put_frame(7, 1, text(5)), 21), accepted(0, 5))
+        check("dropped: save", asked(link, SAVE, 13), struct.pack(">IBQ", 8, 0x86, 1))
+        time.sleep(3.5)
+        check("dropped: nothing was written", what_is_in(reading), "")
+        check("dropped: stop", asked(link, STOP, 5), STOPPING)
+        link.close()
+        ends_soon("dropped", process, 0)
+        # no-snapshot, started and saved; and loading, where the first of these had waited before the start was reported.
+        lost, *events = events_of("dropped", what_is_in(reading))[0]
+        check("dropped: their number", lost in ["lost events=3", "lost events=4"], True)
+        check("dropped: all", events, ["stopping", f"saved batches=1 bytes={size}", "stopped batches=1 total=5"])
+    os.remove(path)
+
+
+def a_slow_reader_gets_each_line():
+    """Lines that a pipe has no room for come whole where it is read within a second, however long they are."""
+    path = in_folder("s" * 200) + "/" + "\u0301" * 90
+    os.mkdir(os.path.dirname(path))
+    with unread_server("slow", "--snapshot", path) as (process, reading, link):
+        time.sleep(0.3)
+        told, over = what_is_in(reading), time.monotonic() + 5
+        while "started" not in told and time.monotonic() < over:
+            time.sleep(0.05)
+            told += what_is_in(reading)
+        escaped = path.replace("\u0301", "\\u{301}")
+        check("slow: the start", events_of("slow", told)[0],
+              [f'no-snapshot path="{escaped}"', "started batches=0 total=0"])
+        check("slow: stop", asked(link, STOP, 5), STOPPING)
+        link.close()
+        ends_soon("slow", process, 0)
+
+
+def a_standard_error_that_is_gone():
+    """Neither one that is closed nor a pipe that nobody can read any more keeps a server from its end."""
+    for name in ["closed", "unreadable"]:
+        path = in_folder(name)
+        words = [server.PROGRAM, "serve", "--unix", path, *SMALL, "--events"]
+        reading, writing = os.pipe()
+        os.close(reading)
+        how = {"preexec_fn": lambda: os.close(2)} if name == "closed" else {"stderr": writing}
+        process = subprocess.Popen(words, stdout=subprocess.PIPE, **how)
+        os.close(writing)
+        check(f"{name}: the line", process.stdout.readline(), f"listening unix {path}\n".encode())
+        with socket.socket(socket.AF_UNIX) as link:
+            link.settimeout(WAIT)
+            link.connect(path)
+            check(f"{name}: put", asked(link, put_frame(7, 1, text(5)), 21), accepted(0, 5))
+            check(f"{name}: stop", asked(link, STOP, 5), STOPPING)
+        check(f"{name}: the last line", process.stdout.readline(), b"stopped batches 1 total 5\n")
+        ends_soon(name, process, 0)
+        process.stdout.close()
 
 
 def without_the_option_nothing_is_told():
@@ -432,6 +540,9 @@ def all_are_tried():
         a_want_of_workers_is_told()
         short_waits_are_not_told()
         nobody_reads_events()
+        lines_that_are_dropped_are_counted()
+        a_slow_reader_gets_each_line()
+        a_standard_error_that_is_gone()
         without_the_option_nothing_is_told()
 
 

@@ -204,10 +204,14 @@ def sixteen_take_one(room):
         kill(at)
 
 
-def files_are_limited(most, taken, name):
-    """No file may have more than so many bytes: so many puts are accepted, then none, and with room again they are."""
+def files_are_limited(most, taken, name, is_ignored):
+    """No file may have more than so many bytes: so many puts are accepted, then none, and with room again they are.
+
+    By default the signal of a file that is too large ends a process. `hhm-run` has it ignored, as Python has.
+    """
+    name = f"{name} {is_ignored}"
     room = room_of(f"full {name}")
-    with serving(room, restore_signals=False) as at:
+    with serving(room, restore_signals=not is_ignored) as at:
         server.limit_files(at.process, most)
         puts = [(7, n, [(0, 0, n + 1)]) for n in range(taken + 1)]
         totals = [sum(range(1, n + 2)) for n in range(taken + 1)]
@@ -515,9 +519,42 @@ def figures(reply):
 
 
 def a_log_is_full():
-    files_are_limited(PAGE, 0, "at once")
-    files_are_limited(2 * PAGE, 1, "behind one")
-    files_are_limited(5 * PAGE, 4, "behind four")
+    for is_ignored in [True, False]:
+        files_are_limited(PAGE, 0, "at once", is_ignored)
+        files_are_limited(2 * PAGE, 1, "behind one", is_ignored)
+        files_are_limited(5 * PAGE, 4, "behind four", is_ignored)
+
+
+def limited_saves_fail():
+    """A snapshot or a new log that the limit doesn't let grow: the save is refused, and no signal ends the server."""
+    for name, most, fault in [("snapshot", 50, "file: Write"), ("log", PAGE - 1, "log: Write")]:
+        room = room_of(f"limited {name}")
+        with serving(room) as at:
+            with at.link() as link:
+                check(f"limited {name}: put", answer(link, put_of(FIVE)), accepted(0, 5))
+                server.limit_files(at.process, most)
+                check(f"limited {name}: save", answer(link, SAVE), SAVE_FAILED)
+                check(f"limited {name}: status", asked(link, STATUS + STORED, 42), counts(1, 5) * 2)
+                server.limit_files(at.process, resource.RLIM_INFINITY)
+                check(f"limited {name}: save again", answer(link, SAVE), saved(1))
+                check(f"limited {name}: put more", answer(link, put_of(THREE)), accepted(1, 8))
+                server.limit_files(at.process, most)
+                check(f"limited {name}: stop", answer(link, STOP), STOPPING)
+            output, error = at.process.communicate(timeout=server.WAIT)
+            check(f"limited {name}: the end", (output, error, at.process.returncode), ("", f"hhm: {fault}\n", 4))
+        check(f"limited {name}: a start", started("--log", room.log, "--snapshot", room.snap), stopped(2, 8))
+
+
+def limited_starts_fail():
+    """A first start whose files may have no more bytes than these ends with a fault, and the next one is as the first."""
+    for name, most, fault in [("snapshot", 50, "file: Write"), ("log", PAGE - 1, "log: Write")]:
+        path = os.path.join(server.FOLDER, f"limited start {name}")
+        words = [server.PROGRAM, "serve", "--unix", path + " socket", *SMALL, f"--{name}", path]
+        limits = (most, most)
+        ran = subprocess.run(words, preexec_fn=lambda: resource.setrlimit(resource.RLIMIT_FSIZE, limits),
+                             capture_output=True, text=True, timeout=server.WAIT)
+        check(f"limited start {name}", (ran.stdout, ran.stderr, ran.returncode), ("", f"hhm: {fault}\n", 4))
+        check(f"limited start {name}: then", started(f"--{name}", path), stopped(0, 0))
 
 
 def all_are_tried():
@@ -530,6 +567,8 @@ def all_are_tried():
         a_repeat_waits_for_its_first,
         one_sync_serves_many,
         a_log_is_full,
+        limited_saves_fail,
+        limited_starts_fail,
         a_stretch_is_tried_once,
         others_have_room,
         a_full_disk,

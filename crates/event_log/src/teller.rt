@@ -1,5 +1,6 @@
 //! The lines of what happens.
 
+use crate::error_lines::ErrorLines;
 use crate::event::{Event, FailedCall, Unsaved};
 use crate::file_sizes::FileSizes;
 use crate::log::{CODES, EventLog, News};
@@ -18,6 +19,7 @@ const REFUSALS_EVERY: u64 = 60;
 pub struct Teller<'a, R: Wait + Clock + Eprint + FileSizes> {
     rt: &'a R,
     log: &'a EventLog,
+    lines: ErrorLines<'a, R>,
     loading: Option<Instant>,
     is_loading: bool,
     is_empty: bool,
@@ -34,6 +36,7 @@ impl<'a, R: Wait + Clock + Eprint + FileSizes> Teller<'a, R> {
         Teller {
             rt,
             log,
+            lines: ErrorLines::new(rt),
             loading: now,
             is_loading: false,
             is_empty: false,
@@ -45,14 +48,14 @@ impl<'a, R: Wait + Clock + Eprint + FileSizes> Teller<'a, R> {
         }
     }
 
-    /// Tells what has happened.
+    /// Tells what has happened. Where standard error takes nothing, its lines are dropped after a second.
     pub fn tell(&mut self, news: &News) {
+        self.lines.begin();
         for event in news.events.iter() {
             self.tell_event(*event);
         }
-        if news.lost > 0 {
-            let _ = eprintln!(self.rt; "{} lost events={}", self.now(), news.lost);
-        }
+        self.lines.note_lost(news.lost);
+        self.lines.say_lost();
         if since(self.rt, self.looked) >= Duration::from_secs(1) {
             self.tell_each_second(news);
             self.looked = Instant::now(self.rt).ok();
@@ -68,101 +71,111 @@ impl<'a, R: Wait + Clock + Eprint + FileSizes> Teller<'a, R> {
 
     fn tell_event(&mut self, event: Event) {
         let now = self.now();
-        let rt = self.rt;
-        let _ = match event {
+        match event {
             Event::Loading => {
-                self.loading = Instant::now(rt).ok();
+                self.loading = Instant::now(self.rt).ok();
                 self.is_loading = true;
-                Ok(())
             }
             Event::NoSnapshot => {
                 self.is_empty = true;
                 let path = self.log.snapshot_path();
-                eprintln!(rt; "{now} no-snapshot path={path:?}")
+                self.lines
+                    .say(format_args!("{now} no-snapshot path={path:?}"));
             }
             Event::ReadingLog => {
-                self.reading = Instant::now(rt).ok();
+                self.reading = Instant::now(self.rt).ok();
                 self.is_reading = true;
-                Ok(())
             }
             Event::LogRead { batches, pages } => self.tell_log(batches, pages),
             Event::LogBegun => {
                 self.is_reading = false;
                 let path = self.log.log_path();
-                eprintln!(rt; "{now} log-begun path={path:?}")
+                self.lines
+                    .say(format_args!("{now} log-begun path={path:?}"));
             }
             Event::Started { batches, total } => self.tell_start(batches, total),
             Event::Saved { batches, took } => self.tell_save(batches, Seconds(took)),
             Event::NotSaved { why, took } => self.tell_failure(why, Seconds(took)),
             Event::LogFailed { by } => self.tell_of_log("log-failed", by),
             Event::LogFull { by } => self.tell_of_log("log-full", by),
-            Event::Stopping => eprintln!(rt; "{now} stopping"),
-            Event::Stopped { batches, total } => {
-                eprintln!(rt; "{now} stopped batches={batches} total={total}")
-            }
-        };
+            Event::Stopping => self.lines.say(format_args!("{now} stopping")),
+            Event::Stopped { batches, total } => self.lines.say(format_args!(
+                "{now} stopped batches={batches} total={total}"
+            )),
+        }
     }
 
-    fn tell_start(&mut self, batches: u64, total: u64) -> io::Result<()> {
+    fn tell_start(&mut self, batches: u64, total: u64) {
         let now = self.now();
         let is_loaded = self.is_loading && !self.is_empty;
         self.is_loading = false;
         self.is_reading = false;
         if !is_loaded {
-            return eprintln!(self.rt; "{now} started batches={batches} total={total}");
+            self.lines.say(format_args!("{now} started batches={batches} total={total}"));
+            return;
         }
         let took = Seconds(since(self.rt, self.loading));
-        eprintln!(self.rt; "{now} loaded batches={batches} total={total} seconds={took}")
+        self.lines.say(format_args!("{now} loaded batches={batches} total={total} seconds={took}"));
     }
 
-    fn tell_log(&mut self, batches: u64, pages: u64) -> io::Result<()> {
+    fn tell_log(&mut self, batches: u64, pages: u64) {
         let now = self.now();
         let took = Seconds(since(self.rt, self.reading));
         self.is_reading = false;
-        eprintln!(self.rt; "{now} log-read batches={batches} pages={pages} seconds={took}")
+        self.lines.say(format_args!(
+            "{now} log-read batches={batches} pages={pages} seconds={took}"
+        ));
     }
 
     // Tells what has become of the log, by which call, and what the system said.
-    fn tell_of_log(&self, event: &str, by: Option<FailedCall>) -> io::Result<()> {
+    fn tell_of_log(&mut self, event: &str, by: Option<FailedCall>) {
         let now = self.now();
         let path = self.log.log_path();
         let Some(FailedCall { call, error }) = by else {
-            return eprintln!(self.rt; "{now} {event} path={path:?}");
+            self.lines.say(format_args!("{now} {event} path={path:?}"));
+            return;
         };
         let Some(code) = error else {
-            return eprintln!(self.rt; "{now} {event} path={path:?} call={call}");
+            self.lines
+                .say(format_args!("{now} {event} path={path:?} call={call}"));
+            return;
         };
         let error = io::Error::from_raw_os_error(code);
-        eprintln!(self.rt; "{now} {event} path={path:?} call={call} error=\"{error}\"")
+        self.lines.say(format_args!("{now} {event} path={path:?} call={call} error=\"{error}\""));
     }
 
-    fn tell_save(&self, batches: u64, took: Seconds) -> io::Result<()> {
+    fn tell_save(&mut self, batches: u64, took: Seconds) {
         let now = self.now();
         match self.rt.file_size(self.log.snapshot_path()) {
-            Some(bytes) => {
-                eprintln!(self.rt; "{now} saved batches={batches} bytes={bytes} seconds={took}")
-            }
-            None => eprintln!(self.rt; "{now} saved batches={batches} seconds={took}"),
+            Some(bytes) => self.lines.say(format_args!(
+                "{now} saved batches={batches} bytes={bytes} seconds={took}"
+            )),
+            None => self.lines.say(format_args!("{now} saved batches={batches} seconds={took}")),
         }
     }
 
     // Tells that a save failed, of which file and at which step, and what the system said.
-    fn tell_failure(&self, why: Option<Unsaved>, took: Seconds) -> io::Result<()> {
+    fn tell_failure(&mut self, why: Option<Unsaved>, took: Seconds) {
         let now = self.now();
         let Some(Unsaved { file, step, error }) = why else {
-            return eprintln!(self.rt; "{now} save-failed seconds={took}");
+            self.lines
+                .say(format_args!("{now} save-failed seconds={took}"));
+            return;
         };
         let Some(code) = error else {
-            return eprintln!(self.rt; "{now} save-failed file={file} step={step} seconds={took}");
+            self.lines.say(format_args!(
+                "{now} save-failed file={file} step={step} seconds={took}"
+            ));
+            return;
         };
         let error = io::Error::from_raw_os_error(code);
-        eprintln!(self.rt;
+        self.lines.say(format_args!(
             "{now} save-failed file={file} step={step} error=\"{error}\" seconds={took}"
-        )
+        ));
     }
 
     // Tells that a file is still read.
-    fn tell_reading(&self) {
+    fn tell_reading(&mut self) {
         let now = self.now();
         let (path, begun) = if self.is_reading {
             (self.log.log_path(), self.reading)
@@ -172,30 +185,33 @@ impl<'a, R: Wait + Clock + Eprint + FileSizes> Teller<'a, R> {
             return;
         };
         let passed = Seconds(since(self.rt, begun));
-        let _ = eprintln!(self.rt; "{now} loading path={path:?} seconds={passed}");
+        self.lines.say(format_args!("{now} loading path={path:?} seconds={passed}"));
     }
 
     // Tells that a file is still read, and of connections that wait.
     fn tell_each_second(&mut self, news: &News) {
         self.tell_reading();
         let now = self.now();
-        let _ = match self
+        match self
             .waiting
             .look(self.rt, self.looked, news.came, news.served)
         {
-            Waits::Nothing => Ok(()),
+            Waits::Nothing => {}
             Waits::Waiting {
                 connections,
                 passed,
             } => {
                 let passed = Seconds(passed);
-                eprintln!(self.rt; "{now} no-worker connections={connections} seconds={passed}")
+                self.lines.say(format_args!(
+                    "{now} no-worker connections={connections} seconds={passed}"
+                ));
             }
             Waits::Over { passed } => {
                 let passed = Seconds(passed);
-                eprintln!(self.rt; "{now} worker-free seconds={passed}")
+                self.lines
+                    .say(format_args!("{now} worker-free seconds={passed}"));
             }
-        };
+        }
     }
 
     // Tells how many requests were refused since it was told last, a line for each code.
@@ -207,9 +223,9 @@ impl<'a, R: Wait + Clock + Eprint + FileSizes> Teller<'a, R> {
         for code in 0..CODES {
             let count = counts[code];
             if count > 0 {
-                let _ = eprintln!(self.rt;
+                self.lines.say(format_args!(
                     "{now} refused code={code} count={count} seconds={passed}"
-                );
+                ));
             }
         }
     }

@@ -8,7 +8,7 @@ use std::sync::Wait;
 use std::time::{Clock, Duration};
 
 /// Writes a line for what happens as it happens, and once a second and once a minute what is told of such times, until
-/// the log is ended. A line that standard error doesn't take is lost.
+/// the log is ended. A line that standard error doesn't take within a second is dropped and counted.
 ///
 /// Each line is `time event key=value ..`, with the time in UTC:
 ///
@@ -21,7 +21,7 @@ use std::time::{Clock, Duration};
 /// - `saved batches bytes seconds`, `save-failed file step error seconds`: since it was asked for;
 /// - `log-failed path call error`: once until a save; `log-full path call error`: once a minute at most;
 /// - `stopping`: no further connection is accepted; `stopped batches total`: the end;
-/// - `lost events`: so many lines could not be kept.
+/// - `lost events`: so many lines could not be kept, or were dropped.
 pub fn tell_events<R: Wait + Clock + Eprint + FileSizes>(rt: &R, log: &EventLog) {
     let mut teller = Teller::new(rt, log);
     for _ in rt.forever() {

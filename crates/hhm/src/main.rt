@@ -48,6 +48,7 @@ use batch_store::GivenNumbers;
 use byte_io::{Counted, write_all};
 use clap::error::ErrorKind;
 use clap::{ArgMatches, Error};
+use event_log::ErrorLines;
 use mm_sum::{run_sum, run_sum_of};
 use progress::{Entries, ProgressLine, Watched};
 use snap_file::{FileFault, Identity, LockedFile, NamedFile, PathLock, lock, lock_existing};
@@ -92,9 +93,9 @@ fn main(rt: HostRuntime) -> ExitCode {
     }
 }
 
-/// Says a server's fault in one line on standard error.
+/// Says a server's fault in one line on standard error, unless that takes nothing for a second.
 fn tell_server_fault(rt: &HostRuntime, fault: ServerFault) -> ExitCode {
-    let _ = eprintln!(rt; "hhm: {fault}");
+    ErrorLines::new(rt).say(format_args!("hhm: {fault}"));
     ExitCode::from(status_of(&fault))
 }
 

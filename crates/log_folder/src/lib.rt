@@ -14,6 +14,7 @@ mod naming;
 mod news;
 mod place;
 mod real;
+mod size_limit;
 mod system_file;
 
 pub use calls::{FoundFile, LogFolder, NumberedFile};
@@ -23,4 +24,5 @@ pub use memory::MemoryLogFolder;
 pub use naming::{begin_named, give_name, make_with_head};
 pub use news::{FailedCall, FileCall, LogNews, StartedLog};
 pub use real::{FileLogFolder, Refusal};
+pub use size_limit::within_limit;
 pub use system_file::SystemFile;

@@ -2,6 +2,7 @@
 ghost use Rattle.std.specs.Prelude.{◌≡◌, ℕ, ◌+◌, ◌<◌, ◌≤◌, List, [], length, slice_index, OnOk, OnErr};
 ghost use Rattle.log_disk.specs.Disk.{Holds, HoldsSome, IsCut, MayBeCut, Follows, Elapses};
 
+use crate::size_limit::{too_large, within_limit};
 use std::fs::File;
 use std::io::{self, ErrorKind};
 use std::os::fd::AsRawFd;
@@ -99,6 +100,16 @@ fn read_padded(file: &File, at: u64, buf: &mut [u8]) -> io::Result<()> {
     }
 }
 
+/// Writes all of the bytes, or as many as the system's limit of the size of files allows, and then fails.
+fn write_within_limit(file: &File, at: u64, bytes: &[u8]) -> io::Result<()> {
+    let within = within_limit(at, bytes)?;
+    file.write_all_at(within, at)?;
+    if within.len() < bytes.len() {
+        return Err(too_large());
+    }
+    Ok(())
+}
+
 /// Cuts a file to a length, if it is longer.
 fn cut_longer(file: &File, len: u64) -> io::Result<()> {
     if file.metadata()?.len() <= len {
@@ -143,7 +154,7 @@ impl SystemFile for File {
     }
 
     fn write_whole(&mut self, at: u64, bytes: &[u8]) -> io::Result<()> {
-        self.write_all_at(bytes, at)
+        write_within_limit(self, at, bytes)
     }
 
     fn cut_to(&mut self, len: u64) -> io::Result<()> {
