@@ -12,6 +12,7 @@ import os
 import resource
 import subprocess
 import sys
+import time
 
 import server
 from disks import CUTS, DIE_BEFORE, DIE_BEHIND, FAIL, HOLD, HOLD_AND_FAIL, OPENS, RENAMES, SHORT, SYNCS
@@ -518,6 +519,46 @@ def figures(reply):
     return dict(line.removeprefix("hhm_").rsplit(" ", 1) for line in lines)
 
 
+def a_hanging_sync_ends_a_drain():
+    """A Stop while a sync hangs: with --drain the server ends with status 4 and says what is durable, and else waits.
+
+    A sync that takes less than ten seconds more than the drain is no hang: all is accepted, and the status is 0.
+    """
+    for name, words, wanted in [
+        ("hanging", ["--drain", "1"], ("", "hhm: log: Hangs (1 batches are durable)\n", 4)),
+        ("slow", ["--drain", "1"], ("stopped batches 2 total 8\n", "", 0)),
+        ("undrained", [], ("stopped batches 2 total 8\n", "", 0)),
+    ]:
+        room = room_of(name)
+        room.page[Page.HOLD] = 1
+        with serving(room, *words) as at:
+            with at.link() as link, at.link() as stopping:
+                check(f"{name}: put", answer(link, put_of(FIVE)), accepted(0, 5))
+                room.page.arm(SYNCS, HOLD)
+                link.sendall(put_of(THREE))
+                check(f"{name}: a sync is under way", is_until(lambda: room.page[Page.HELD]), True)
+                check(f"{name}: stop", answer(stopping, STOP), STOPPING)
+                stopping.close()
+                begun = time.monotonic()
+                if name == "hanging":
+                    try:
+                        ended = (*at.process.communicate(timeout=30), at.process.returncode)
+                    except subprocess.TimeoutExpired:
+                        ended = "not at all"
+                    check(f"{name}: the end", ended, wanted)
+                    check(f"{name}: in time", 12 <= time.monotonic() - begun < 20, True)
+                else:
+                    time.sleep(9 if words else 16)
+                    check(f"{name}: it goes on", at.process.poll(), None)
+                room.page[Page.HOLD] = 0
+                if name != "hanging":
+                    check(f"{name}: its reply", received(link, 21), b"" if words else accepted(1, 8))
+            if name != "hanging":
+                check(f"{name}: the end", (*at.process.communicate(timeout=server.WAIT), at.process.returncode), wanted)
+        output, error, status = started("--log", room.log, "--snapshot", room.snap)
+        check(f"{name}: a start", (output.split()[2:3] in (["1"], ["2"]), error, status), (True, "", 0))
+
+
 def a_log_is_full():
     for is_ignored in [True, False]:
         files_are_limited(PAGE, 0, "at once", is_ignored)
@@ -566,6 +607,7 @@ def all_are_tried():
         all_who_wait_are_told,
         a_repeat_waits_for_its_first,
         one_sync_serves_many,
+        a_hanging_sync_ends_a_drain,
         a_log_is_full,
         limited_saves_fail,
         limited_starts_fail,

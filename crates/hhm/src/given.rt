@@ -9,7 +9,7 @@ use crate::report::Fault;
 use batch_store::{GivenNumbers, Setup};
 use clap::ArgMatches;
 use event_log::{EventLog, Paths};
-use socket_server::Settings;
+use socket_server::{Ending, Settings};
 use std::alloc::{AllocError, Global};
 use std::num::NonZeroU64;
 use std::sync::Arc;
@@ -120,6 +120,14 @@ fn events_of(alloc: Global, matches: &ArgMatches) -> Result<Option<Arc<EventLog>
     Ok(Some(Arc::new(alloc, EventLog::new(alloc, paths))?))
 }
 
+// Where it is noted how the server ends, if its sessions have a time after a Stop.
+fn ending_of(alloc: Global, drain: Option<NonZeroU64>) -> Result<Option<Arc<Ending>>, AllocError> {
+    if drain.is_none() {
+        return Ok(None);
+    }
+    Ok(Some(Arc::new(alloc, Ending::new())?))
+}
+
 /// The settings that the options spell. All numbers are read before the setup is judged.
 pub fn settings_of(alloc: Global, matches: &ArgMatches) -> Result<Settings, Fault>
     ensures { IfOk result (λ s. AreGiven (found_of matches.now) s) }
@@ -154,5 +162,6 @@ pub fn settings_of(alloc: Global, matches: &ArgMatches) -> Result<Settings, Faul
         idle,
         drain,
         events: events_of(alloc, matches)?,
+        ending: ending_of(alloc, drain)?,
     })
 }

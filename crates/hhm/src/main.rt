@@ -43,7 +43,7 @@ use crate::roll_word::{file_of_roll, roll_words};
 use crate::serve::{ServeOrder, order_of, status_of};
 use crate::streams::ClosedStreams;
 use crate::sum_files::{NamedTexts, has_input, is_input_alone, place_of};
-use crate::told::run_told;
+use crate::told::{ServerEnd, run_apart};
 use batch_store::GivenNumbers;
 use byte_io::{Counted, write_all};
 use clap::error::ErrorKind;
@@ -80,10 +80,10 @@ fn main(rt: HostRuntime) -> ExitCode {
     match run(&rt) {
         Ok(Outcome::Ended(code)) => code,
         Ok(Outcome::Serve(order)) => {
-            let mut out = Counted::new(rt.stdout());
-            match run_told(&rt, rt.alloc(), order, &mut out) {
-                Ok(_) => ExitCode::SUCCESS,
-                Err(fault) => tell_server_fault(&rt, fault),
+            match run_apart(rt, rt.alloc(), order, Counted::new(rt.stdout())) {
+                ServerEnd::Ended(Ok(_)) => ExitCode::SUCCESS,
+                ServerEnd::Ended(Err(fault)) => tell_server_fault(&rt, fault),
+                ServerEnd::Hangs { durable } => tell_hang(&rt, durable),
             }
         }
         Err(fault) => {
@@ -97,6 +97,12 @@ fn main(rt: HostRuntime) -> ExitCode {
 fn tell_server_fault(rt: &HostRuntime, fault: ServerFault) -> ExitCode {
     ErrorLines::new(rt).say(format_args!("hhm: {fault}"));
     ExitCode::from(status_of(&fault))
+}
+
+/// Says that a sync of a server's log hangs, in which so many batches are durable.
+fn tell_hang(rt: &HostRuntime, durable: u64) -> ExitCode {
+    ErrorLines::new(rt).say(format_args!("hhm: log: Hangs ({durable} batches are durable)"));
+    ExitCode::from(4)
 }
 
 /// Reads the command line, and does what it asks for, but for a server.

@@ -10,8 +10,9 @@ use crate::path_host::PathHost;
 use crate::report::Fault;
 use clap::ArgMatches;
 use snap_file::{FileFault, SnapFault};
-use socket_server::{ServerFault, Settings, is_reserved};
+use socket_server::{Ending, ServerFault, Settings, is_reserved};
 use std::alloc::{AllocError, Global};
+use std::sync::Arc;
 
 /// The status that a server's fault ends the program with: 2 for settings, 3 for what a snapshot or a log says, 4 for a
 /// device, an address or a thread, 5 for memory, 6 for records that differ.
@@ -109,6 +110,11 @@ pub struct ServeOrder {
 }
 
 impl ServeOrder {
+    /// Where it is noted how the server ends, if somebody is to wait for that.
+    pub fn ending(&self) -> Option<Arc<Ending>> {
+        Arc::try_clone(self.settings.ending.as_ref()?).ok()
+    }
+
     /// Its settings, to serve by.
     pub fn into_settings(self) -> Settings
         ensures { result ≡ self.settings }

@@ -58,6 +58,7 @@ A fault is one line on standard error:
   hhm: log: OtherBook, LinkDiffers status 3
   hhm: log: NotFound, Create, Write, Sync, Rename, Busy   status 4
   hhm: log: NotDurable (N batches) status 4
+  hhm: log: Hangs (N batches are durable)   status 4
   hhm: listen failed: ADDRESS      status 4
   hhm: no worker                   status 4
   hhm: no random numbers           status 4

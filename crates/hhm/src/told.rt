@@ -132,3 +132,56 @@ pub fn run_told<
 {
     serve_told::<FileLog, R, W>(rt, alloc, order.into_settings(), out)
 }
+
+/// What has become of a server.
+#[derive(Drop)]
+pub enum ServerEnd {
+    /// It has ended so.
+    Ended(Result<Status, ServerFault>),
+    /// Its sessions can't end, since a sync of its log hangs. So many batches are durable there.
+    Hangs { durable: u64 },
+}
+
+/// Runs a server as it is ordered, as `run_told` does. Where its sessions have a time after a Stop, it runs in a thread
+/// of its own, for which this one doesn't wait where a sync hangs: that thread ends with the process.
+pub fn run_apart<
+    R: Threads
+        + Wait
+        + Clock
+        + Machine
+        + Disk
+        + LogPlace<FileLog>
+        + Host
+        + LogHost<FileLog>
+        + RandomSource
+        + Eprint
+        + FileSizes
+        + Net<Listener = TcpListener, Stream = TcpStream>
+        + Copy
+        + Send
+        + Sync
+        + 'static,
+    W: Sink + Send + Drop + 'static,
+>(rt: R, alloc: Global, order: ServeOrder, out: W) -> ServerEnd
+    requires { W.failure_count out + 1 < 2 ^ 64 }
+{
+    let (Some(ending), Some(noted)) = (order.ending(), order.ending()) else {
+        let mut out = out;
+        return ServerEnd::Ended(run_told(&rt, alloc, order, &mut out));
+    };
+    let server = move || -> Result<Status, ServerFault>
+        requires { W.failure_count out + 1 < 2 ^ 64 }
+    {
+        let mut out = out;
+        let outcome = run_told(&rt, alloc, order, &mut out);
+        noted.end(&rt);
+        outcome
+    };
+    match thread::spawn(&rt, server) {
+        Ok(server) => match ending.wait(&rt) {
+            None => ServerEnd::Ended(server.join(&rt)),
+            Some(durable) => ServerEnd::Hangs { durable },
+        },
+        Err(refused) => ServerEnd::Ended((refused.value)()),
+    }
+}

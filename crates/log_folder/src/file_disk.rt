@@ -79,6 +79,20 @@ impl<F: SystemFile> FileDisk<F> {
         }
     }
 
+    /// Notes that a sync begins.
+    fn note_sync_begun(&self) {
+        if let Some(news) = &self.news {
+            news.note_sync_begun();
+        }
+    }
+
+    /// Notes that it has ended.
+    fn note_sync_ended(&self) {
+        if let Some(news) = &self.news {
+            news.note_sync_ended();
+        }
+    }
+
     /// Notes a sync.
     fn note_sync(&self) {
         if let Some(news) = &self.news {
@@ -181,7 +195,10 @@ impl<F: SystemFile> LogDisk for FileDisk<F> {
     /// Syncs the bytes and the length, and all else where the length may have changed. Then it looks after the file:
     /// whoever moves, removes, replaces or cuts the log of a server takes away what would be told as durable.
     fn sync(&mut self) -> Result<(), DeviceFault> {
-        if let Err(error) = self.file.sync_now(self.is_resized) {
+        self.note_sync_begun();
+        let synced = self.file.sync_now(self.is_resized);
+        self.note_sync_ended();
+        if let Err(error) = synced {
             return Err(self.fail_in_doubt(FileCall::Sync, &error));
         }
         self.is_resized = false;

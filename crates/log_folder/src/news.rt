@@ -71,6 +71,9 @@ pub struct LogNews {
     started: Mutex<Option<StartedLog>>,
     failed: Mutex<Option<FailedCall>>,
     broken: Mutex<Option<FailedCall>>,
+    // How many syncs have begun, and how many of these have ended.
+    begun_syncs: AtomicU64,
+    ended_syncs: AtomicU64,
     syncs: AtomicU64,
     pages: AtomicU64,
 }
@@ -97,6 +100,8 @@ impl LogNews {
             started: Mutex::new(None),
             failed: Mutex::new(None),
             broken: Mutex::new(None),
+            begun_syncs: AtomicU64::new(0),
+            ended_syncs: AtomicU64::new(0),
             syncs: AtomicU64::new(0),
             pages: AtomicU64::new(0),
         }
@@ -106,6 +111,26 @@ impl LogNews {
     pub fn note_start(&self, log: StartedLog) {
         self.pages.store(log.pages, Ordering::SeqCst);
         note(&self.started, Some(log));
+    }
+
+    /// A sync of a file of the log begins.
+    pub(crate) fn note_sync_begun(&self) {
+        self.begun_syncs.fetch_add(1, Ordering::SeqCst);
+    }
+
+    /// It has ended.
+    pub(crate) fn note_sync_ended(&self) {
+        self.ended_syncs.fetch_add(1, Ordering::SeqCst);
+    }
+
+    /// A number of the sync that is made now, if one is: as long as it stays, none has ended.
+    pub fn running_sync(&self) -> Option<u64> {
+        let ended = self.ended_syncs.load(Ordering::SeqCst);
+        if self.begun_syncs.load(Ordering::SeqCst) > ended {
+            Some(ended)
+        } else {
+            None
+        }
     }
 
     /// A file of the log was synced.

@@ -3,6 +3,7 @@ ghost use Rattle.std.specs.Prelude.{◌≡◌, ◌+◌, ◌<◌, ◌^◌, IfErr,
 ghost use Rattle.socket_server.specs.Faults.{IsMetServing};
 
 use crate::drain::Drain;
+use crate::ending::Ending;
 use crate::fault::ServerFault;
 use crate::host::{FileId, Host};
 use crate::numbers::SessionNumbers;
@@ -33,6 +34,7 @@ pub struct Places {
     pub idle: Option<Duration>,
     pub drain: Option<Duration>,
     pub events: Option<Arc<EventLog>>,
+    pub ending: Option<Arc<Ending>>,
     pub failure: Arc<LastFailure>,
     pub counters: Counters,
 }
@@ -227,6 +229,7 @@ pub fn bind_listeners<R: Host + Net<Listener = TcpListener, Stream = TcpStream>,
         idle,
         drain,
         events,
+        ending,
         failure,
         counters,
     } = places;
@@ -243,6 +246,7 @@ pub fn bind_listeners<R: Host + Net<Listener = TcpListener, Stream = TcpStream>,
         numbers: SessionNumbers::new(sessions),
         idle,
         failure,
+        ending,
     };
     let Ok(shared) = Arc::new(alloc, shared) else {
         if let Some(own) = own {

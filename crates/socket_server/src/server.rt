@@ -319,6 +319,7 @@ fn plan_of(settings: Settings, identity: Identity, failure: SaveFailure, counter
         idle,
         drain,
         events,
+        ending,
     } = settings;
     Plan {
         places: Places {
@@ -329,6 +330,7 @@ fn plan_of(settings: Settings, identity: Identity, failure: SaveFailure, counter
             idle: time_limit(idle),
             drain: time_limit(drain),
             events,
+            ending,
             failure: read,
             counters,
         },

@@ -1,18 +1,21 @@
 //! What the acceptors share.
 
+use crate::ending::Ending;
 use crate::numbers::SessionNumbers;
 use crate::stop::StopGate;
 use session_pool::LastFailure;
 use std::sync::{Arc, Wait};
 use std::time::Duration;
 
-/// The stop flag, the numbers of sessions, how long a connection may be silent, and why the last save that failed did.
+/// The stop flag, the numbers of sessions, how long a connection may be silent, why the last save that failed did, and
+/// where it is noted how the server ends, if anywhere.
 #[derive(Drop)]
 pub struct Shared {
     pub gate: StopGate,
     pub numbers: SessionNumbers,
     pub idle: Option<Duration>,
     pub failure: Arc<LastFailure>,
+    pub ending: Option<Arc<Ending>>,
 }
 
 impl Shared {

@@ -68,5 +68,6 @@ pub fn settings(rt: &impl Abort, alloc: Global, plan: &Plan) -> Settings {
         idle: None,
         drain: None,
         events: None,
+        ending: None,
     }
 }
