@@ -1,0 +1,4 @@
+pub mod LeftPages
+pub mod Lines
+pub mod Fronts
+pub mod Salvages
