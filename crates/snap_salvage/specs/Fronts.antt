@@ -1,34 +1,13 @@
--- The front of a log, and how it is found.
---     IsWrong kind        a fault of the bytes of a log, and not of the reading of them
+-- The front of the log that bytes are: the longest beginning of whole blocks.
 --     Begins others blocks
---                         the first ones of these blocks are those others
+--                         the first of these blocks are those others
 --     IsFront bytes pages file
---                         the first so many pages of these bytes are this log, and no other number of first pages is one
---                         with more blocks: the longest beginning of whole blocks
---     HasFront reads fronts u v front
---                         the log's file, which went from u to v, has answered one reading with a log; or with a fault of
---                         its head's page; or with a fault of another page, and then a reading of the pages before that
---                         one with a log
---     IsFrontRead front   what was read so is a log
-use Rattle.std.specs.Prelude.{◌≡◌, ℕ, ◌*◌, ◌<◌, ◌≤◌, List, length, take, Option, Some, None, Result, Ok, Err}
-use Rattle.log_blocks.specs.declared.fault.LogFault.{LogFault}
-use Rattle.log_blocks.specs.declared.fault.LogKind.{LogKind}
-use Rattle.log_blocks.specs.declared.fault.LogKind.TheVariants as kind
+--                         the first so many pages of these bytes are this log, and each log that a number of first pages
+--                         are has no other blocks than the first ones of this log
+use Rattle.std.specs.Prelude.{ℕ, ◌*◌, List, length, take}
 use Rattle.log_read.specs.Logs.{AreSameBlocks, HoldsLog}
 use Rattle.log_read.specs.declared.file.Block.{Block}
 use Rattle.log_read.specs.declared.file.LogFile.{LogFile}
-use Rattle.snap_report.specs.Kept.{most_bytes}
-use Rattle.snap_report.specs.Logged.{IsRead}
-use Rattle.snap_report.specs.declared.kept_log.LogFileFault.{LogFileFault}
-use Rattle.snap_report.specs.declared.kept_log.LogFileFault.TheVariants as log
-use Rattle.snap_salvage.specs.declared.front.Front.{Front}
-use Rattle.snap_salvage.specs.declared.front.Front.TheVariants.{Whole, Before, Headless}
-
-abbrev pub IsWrong : LogKind → Type 0
-IsWrong kind.Read = ⊥
-IsWrong kind.Memory = ⊥
-IsWrong kind.TooLong = ⊥
-IsWrong _ = Unit {0}
 
 abbrev pub Begins : List Block → List Block → Type 0
 Begins others blocks = AreSameBlocks others (take (length others) blocks)
@@ -37,19 +16,3 @@ pub record IsFront (bytes : List ℕ) (pages : ℕ) (file : LogFile) : Type 0 wh
   pub holds : HoldsLog (take (4096 * pages) bytes) file
   pub longest : (n : ℕ) (other : LogFile) → HoldsLog (take (4096 * n) bytes) other →
       Begins other.blocks.items file.blocks.items
-
--- this reading has found a fault of the bytes
-abbrev pub HasFault : {L : Type 0} → (L → ℕ → Result LogFile LogFileFault → L → Type 0) → L → L → LogFault → Type 0
-HasFault reads u v fault = IsWrong fault.kind × reads u most_bytes (Err (log.Log fault)) v
-
-abbrev pub HasFront : {L : Type 0} → (L → ℕ → Result LogFile LogFileFault → L → Type 0) →
-    (L → ℕ → Result LogFile LogFileFault → L → Type 0) → L → L → Front → Type 0
-HasFront reads fronts u v (Whole file) = reads u most_bytes (Ok file) v
-HasFront {L} reads fronts u v (Before file fault) =
-    (m : L) × HasFault reads u m fault × (1 ≤ fault.page) × fronts m fault.page (Ok file) v
-HasFront reads fronts u v (Headless fault) = HasFault reads u v fault × (fault.page ≡ 0)
-
-abbrev pub IsFrontRead : Front → Type 0
-IsFrontRead (Whole file) = IsRead most_bytes file
-IsFrontRead (Before file fault) = IsRead most_bytes file
-IsFrontRead (Headless fault) = Unit {0}

@@ -1,4 +1,5 @@
 pub mod LeftPages
 pub mod Lines
 pub mod Fronts
+pub mod Found
 pub mod Salvages

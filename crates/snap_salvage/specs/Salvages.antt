@@ -10,7 +10,7 @@
 --     salvage_origin book o
 --                         of the new book, or of the book and the window that the files say where they say a window; no
 --                         log goes with it
-use Rattle.std.specs.Prelude.{◌≡◌, ◌⊎◌, ℕ, ◌+◌, ◌==◌, false, if◌then◌else◌, Option, Some, None, Result, Ok}
+use Rattle.std.specs.Prelude.{◌≡◌, ◌⊎◌, ℕ, ◌+◌, ◌==◌, false, if◌then◌else◌, Option, Some, Result, Ok}
 use Rattle.snap_file.specs.Origins.{IsOtherBook, no_window, origin}
 use Rattle.snap_file.specs.Snapshots.{Saved}
 use Rattle.snap_file.specs.declared.fault.FileFault.{FileFault}
@@ -21,7 +21,7 @@ use Rattle.log_read.specs.Logs.{pages_in}
 use Rattle.log_read.specs.declared.file.LogFile.{LogFile}
 use Rattle.snap_report.specs.Logged.{HasFound, IsJoinOf}
 use Rattle.snap_report.specs.declared.kept_log.LogFileFault.{LogFileFault}
-use Rattle.snap_salvage.specs.Fronts.{HasFront}
+use Rattle.snap_salvage.specs.Found.{HasFront}
 use Rattle.snap_salvage.specs.declared.front.Front.{Front}
 use Rattle.snap_salvage.specs.declared.front.Front.TheVariants.{Whole, Before, Headless}
 use Rattle.snap_salvage.specs.declared.front_end.FrontEnd.{FrontEnd}

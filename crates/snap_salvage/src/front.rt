@@ -1,6 +1,6 @@
 //! Finds the front of a log.
 ghost use Rattle.std.specs.Prelude.{◌≡◌, ◌≤◌, ◌+◌, true, false, IfOk};
-ghost use Rattle.snap_salvage.specs.Fronts.{HasFault, HasFront, IsFrontRead, IsWrong};
+ghost use Rattle.snap_salvage.specs.Found.{HasFault, HasFront, IsFrontRead, IsWrong};
 ghost use Rattle.snap_salvage.specs.declared.front.Front.{Front};
 
 use crate::count::MOST_PAGES;

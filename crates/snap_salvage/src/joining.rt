@@ -8,7 +8,7 @@ ghost use Rattle.log_read.specs.Logs.{pages_in};
 ghost use Rattle.snap_file.specs.Origins.{IsOtherBook};
 ghost use Rattle.snap_report.specs.Kept.{most_bytes};
 ghost use Rattle.snap_report.specs.Logged.{IsRead};
-ghost use Rattle.snap_salvage.specs.Fronts.{IsFrontRead};
+ghost use Rattle.snap_salvage.specs.Found.{IsFrontRead};
 ghost use Rattle.snap_salvage.specs.Salvages.{IsGap, IsOfBoth, IsSalvaged};
 ghost use Rattle.snap_salvage.specs.declared.front_end.FrontEnd.{FrontEnd};
 

@@ -74,6 +74,14 @@ fn count_of(list: &BookList) -> u64
     list.folded.len() as u64 + list.batches.len() as u64
 }
 
+// The total of a list.
+fn total_of(setup: &Setup, list: &BookList) -> u64
+    requires { AreAccepted setup.now (accepted_in list.now) }
+    ensures { result ≡ total_in (accepted_in list.now) }
+{
+    total_of_list(setup, list)
+}
+
 // Writes the line of a list that a file was made of.
 fn write_salvaged<W: Sink>(
     w: &mut W,
@@ -88,7 +96,7 @@ fn write_salvaged<W: Sink>(
         (salvage_line (count_in (accepted_in list.now)) (total_in (accepted_in list.now)) end left.now)) }
     ensures later { IfErr result LeavesMade }
 {
-    let line = line_of(count_of(list), total_of_list(setup, list), end, left);
+    let line = line_of(count_of(list), total_of(setup, list), end, left);
     match write_all(w, line.as_str().as_bytes()) {
         Ok(()) => Ok(()),
         Err(fault) => Err(MakeFault::Output(fault)),
