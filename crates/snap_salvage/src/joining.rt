@@ -1,5 +1,5 @@
 //! Joins a snapshot with the front of a log.
-ghost use Rattle.std.specs.Prelude.{◌≡◌, ◌+◌, ◌<◌, ◌^◌, true, Option, IfOk, length};
+ghost use Rattle.std.specs.Prelude.{◌≡◌, ◌+◌, ◌<◌, ◌^◌, true, false, Option, IfOk, IfErr, length};
 ghost use Rattle.batch_store.specs.Batches.{values};
 ghost use Rattle.batch_store.specs.Growth.{FitsIn};
 ghost use Rattle.log_batches.specs.Payloads.{block_of};
@@ -7,9 +7,10 @@ ghost use Rattle.log_join.specs.Joins.{HasGap, known_entries};
 ghost use Rattle.log_read.specs.Logs.{pages_in};
 ghost use Rattle.snap_file.specs.Origins.{IsOtherBook};
 ghost use Rattle.snap_report.specs.Kept.{most_bytes};
-ghost use Rattle.snap_report.specs.Logged.{IsRead};
+ghost use Rattle.snap_report.specs.Logged.{IsRead, IsUnjoined};
 ghost use Rattle.snap_salvage.specs.Found.{IsFrontRead};
 ghost use Rattle.snap_salvage.specs.Salvages.{IsGap, IsOfBoth, IsSalvaged};
+ghost use Rattle.snap_salvage.specs.Told.{IsApart, IsUnsalvaged};
 ghost use Rattle.snap_salvage.specs.declared.front_end.FrontEnd.{FrontEnd};
 
 use crate::front::Front;
@@ -60,7 +61,8 @@ fn count_of(list: &BookList) -> u64
 
 // Whether matrices of the first setup's dimensions fit into those of the second.
 fn fits_in(from: &Setup, to: &Setup) -> bool
-    ensures { result ≡ true → FitsIn from.now to.now }
+    ensures yes { result ≡ true → FitsIn from.now to.now }
+    ensures no { result ≡ false → FitsIn from.now to.now → ⊥ }
 {
     from.rows() <= to.rows() && from.cols() <= to.cols()
 }
@@ -70,10 +72,32 @@ fn is_after(snapshot: &Snapshot, head: &LogHead) -> bool
     ensures book { result ≡ true → IsOtherBook snapshot.now.origin.identity head.now.identity → ⊥ }
     ensures gap { result ≡ true →
         HasGap snapshot.now.setup (known_entries snapshot.now.list) head.now head.now.first }
+    ensures no { result ≡ false → (IsOtherBook snapshot.now.origin.identity head.now.identity → ⊥) →
+        HasGap snapshot.now.setup (known_entries snapshot.now.list) head.now head.now.first → ⊥ }
 {
     !snapshot.origin.identity.is_other(&head.identity)
         && fits_in(&head.setup, &snapshot.setup)
         && head.first > count_of(&snapshot.list)
+}
+
+// What a snapshot and a log have together.
+fn join_pages(
+    alloc: Global,
+    found: Option<Snapshot>,
+    logged: &LogFile,
+    why: FrontEnd,
+) -> Result<Salvage, CheckFault>
+    requires { IsRead most_bytes logged.now }
+    ensures both { IfOk result (λ s. IsOfBoth found logged.now why s.snapshot s.end s.from) }
+    ensures err { IfErr result (IsUnjoined found logged.now) }
+    ensures few { IfOk result (λ s. s.from < 2 ^ 50) }
+{
+    let snapshot = join_beside(alloc, found, logged)?;
+    Ok(Salvage {
+        snapshot,
+        end: why,
+        from: 1 + pages_of(&logged.blocks),
+    })
 }
 
 // The snapshot alone, where a log begins after its end; else both.
@@ -85,6 +109,7 @@ fn join_log(
 ) -> Result<Salvage, CheckFault>
     requires { IsRead most_bytes logged.now }
     ensures both { IfOk result (λ s. IsOfBoth found logged.now why s.snapshot s.end s.from) }
+    ensures err { IfErr result (IsApart found logged.now) }
     ensures few { IfOk result (λ s. s.from < 2 ^ 50) }
 {
     match found {
@@ -102,28 +127,10 @@ fn join_log(
     }
 }
 
-// What a snapshot and a log have together.
-fn join_pages(
-    alloc: Global,
-    found: Option<Snapshot>,
-    logged: &LogFile,
-    why: FrontEnd,
-) -> Result<Salvage, CheckFault>
-    requires { IsRead most_bytes logged.now }
-    ensures both { IfOk result (λ s. IsOfBoth found logged.now why s.snapshot s.end s.from) }
-    ensures few { IfOk result (λ s. s.from < 2 ^ 50) }
-{
-    let snapshot = join_beside(alloc, found, logged)?;
-    Ok(Salvage {
-        snapshot,
-        end: why,
-        from: 1 + pages_of(&logged.blocks),
-    })
-}
-
 // The snapshot alone, beside a log without a head.
 fn alone(found: Option<Snapshot>, fault: LogFault) -> Result<Salvage, CheckFault>
     ensures alone { IfOk result (λ s. IsSalvaged found (Front.Headless fault) s.snapshot s.end s.from) }
+    ensures err { IfErr result (IsUnsalvaged found (Front.Headless fault)) }
     ensures few { IfOk result (λ s. s.from < 2 ^ 50) }
 {
     match found {
@@ -149,6 +156,7 @@ pub(crate) fn join_front(
 ) -> Result<Salvage, CheckFault>
     requires { IsFrontRead front.now }
     ensures both { IfOk result (λ s. IsSalvaged found front.now s.snapshot s.end s.from) }
+    ensures err { IfErr result (IsUnsalvaged found front.now) }
     ensures few { IfOk result (λ s. s.from < 2 ^ 50) }
 {
     match front {

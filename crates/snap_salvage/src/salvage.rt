@@ -1,13 +1,15 @@
 //! `salvage`: makes a new snapshot of what a snapshot and the front of a log have.
 ghost use Rattle.std.specs.Prelude.{◌≡◌, ◌≢◌, ◌⊎◌, ◌+◌, ◌<◌, ◌^◌, IfOk, OnOk, IfErr};
-ghost use Rattle.byte_io.specs.Writing.{HasTaken};
+ghost use Rattle.byte_io.specs.Writing.{HasStopped, HasTaken};
+ghost use Rattle.byte_io.specs.declared.fault.WriteFault.{WriteFault};
 ghost use Rattle.batch_store.specs.Accepted.{count_in, total_in};
 ghost use Rattle.batch_store.specs.Books.{AreAccepted, accepted_in};
 ghost use Rattle.snap_file.specs.Snapshots.{HasBase, Saved};
 ghost use Rattle.snap_report.specs.Logged.{HasFound};
-ghost use Rattle.snap_report.specs.Made.{IsMade, LeavesMade};
+ghost use Rattle.snap_report.specs.Made.{IsMade};
 ghost use Rattle.snap_salvage.specs.Lines.{salvage_line};
 ghost use Rattle.snap_salvage.specs.Salvages.{HasCounted, HasSalvaged, salvage_origin};
+ghost use Rattle.snap_salvage.specs.Told.{IsMadeTold, IsMakeTold, IsSnapshotUnread, IsUncounted, IsUnmade};
 ghost use Rattle.snap_salvage.specs.declared.front_end.FrontEnd.{FrontEnd};
 ghost use Rattle.snap_salvage.specs.declared.left.Left.{Left};
 
@@ -25,7 +27,8 @@ use std::alloc::Global;
 
 // The snapshot in a file, None where there is no file.
 fn load_if_any<F: SnapshotFile>(alloc: Global, file: &mut F) -> Result<Option<Snapshot>, CheckFault>
-    ensures { IfOk result (HasFound F.load_gives file.old file.new) }
+    ensures ok { IfOk result (HasFound F.load_gives file.old file.new) }
+    ensures err { IfErr result (IsSnapshotUnread F.load_gives file.old file.new) }
 {
     match file.load(alloc, SNAPSHOT_BYTES) {
         Ok(snapshot) => Ok(Some(snapshot)),
@@ -42,7 +45,8 @@ fn count_left<L: TornLog>(
     from: u64,
 ) -> Result<Left, CheckFault>
     requires { from < 2 ^ 50 }
-    ensures { IfOk result (HasCounted L.left_gives log.old log.new end from) }
+    ensures ok { IfOk result (HasCounted L.left_gives log.old log.new end from) }
+    ensures err { IfErr result (IsUncounted L.left_gives log.old log.new from) }
 {
     match end {
         FrontEnd::Whole => Ok(Left::none()),
@@ -94,7 +98,9 @@ fn write_salvaged<W: Sink>(
     requires accepted { AreAccepted setup.now (accepted_in list.now) }
     ensures written { OnOk result (HasTaken W.write_takes W.failure_count w.old w.new
         (salvage_line (count_in (accepted_in list.now)) (total_in (accepted_in list.now)) end left.now)) }
-    ensures later { IfErr result LeavesMade }
+    ensures told { IfErr result (λ f. (fault : WriteFault) × (f ≡ MakeFault.Output fault)
+        × HasStopped W.write_takes W.failure_count w.old w.new
+        (salvage_line (count_in (accepted_in list.now)) (total_in (accepted_in list.now)) end left.now) fault.written) }
 {
     let line = line_of(count_of(list), total_of(setup, list), end, left);
     match write_all(w, line.as_str().as_bytes()) {
@@ -118,7 +124,10 @@ fn make_salvaged<N: NewSnapshot, W: Sink>(
     ensures written { OnOk result (HasTaken W.write_takes W.failure_count w.old w.new
         (salvage_line (count_in (accepted_in salvage.snapshot.list)) (total_in (accepted_in salvage.snapshot.list))
         salvage.end left.now)) }
-    ensures later { IfErr result LeavesMade }
+    ensures told { IfErr result (IsMakeTold N.make_gives W.write_takes W.failure_count new.old new.new w.old w.new
+        (salvage_origin book salvage.snapshot.origin) salvage.snapshot.setup (accepted_in salvage.snapshot.list)
+        (salvage_line (count_in (accepted_in salvage.snapshot.list)) (total_in (accepted_in salvage.snapshot.list))
+        salvage.end left.now)) }
 {
     let Salvage {
         snapshot,
@@ -170,7 +179,13 @@ pub fn run_salvage<F: SnapshotFile, L: TornLog, N: NewSnapshot, W: Sink>(
         × IsMade N.make_gives new.old new.new (salvage_origin book x.origin) x.setup (accepted_in x.list)
         × HasTaken W.write_takes W.failure_count w.old w.new
         (salvage_line (count_in (accepted_in x.list)) (total_in (accepted_in x.list)) end left)))) }
-    ensures unmade { IfErr result (λ fault. LeavesMade fault ⊎ ((new.new ≡ new.old) × (w.new ≡ w.old))) }
+    // A fault of the reading is what these calls have answered, or that the two don't belong together, and then nothing
+    // was made or written. One of the making, or of the line, is what comes of it.
+    ensures told { IfErr result (λ fault.
+        IsUnmade F.load_gives L.read_gives L.front_gives L.left_gives file.old file.new log.old log.new new.old new.new
+        w.old w.new fault
+        ⊎ IsMadeTold F.load_gives L.read_gives L.front_gives L.left_gives N.make_gives W.write_takes W.failure_count
+        file.old file.new log.old log.new new.old new.new w.old w.new book fault) }
 {
     let found = load_if_any(alloc, file)?;
     let front = find_front(alloc, log)?;
