@@ -42,7 +42,7 @@ module _ {X : Type 0} where
       (λ on. inr (on.0, ap (λ (l : List X). x ∷ l) on.1 ∙ ap (λ (y : X). y ∷ (zs ++ on.0)) first))
       (one_goes_on xs ys zs ws rest)
 
-  none_more : (d : List X) → length d ≡ 0 → d ≡ []
+  pub none_more : (d : List X) → length d ≡ 0 → d ≡ []
   none_more [] e = refl
   none_more (x ∷ d) e = absurd (omega arith)
 
@@ -227,7 +227,7 @@ none_held s found good more block blocks is are none =
 -- ---- what is read of a part
 
 module _ (first : ℕ) (low : first ≤ 2 ^ 30) where
-  fits_in : (front : List Page) (gs : List Chunks) (rest : List Page) → length front < 2 ^ 50 →
+  pub fits_in : (front : List Page) (gs : List Chunks) (rest : List Page) → length front < 2 ^ 50 →
       front ≡ log_pages first gs ++ rest → AllByRecursion IsBlock gs → place_behind first gs < 2 ^ 64
   fits_in front gs rest few whole each =
       omega (

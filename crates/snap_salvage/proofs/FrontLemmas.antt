@@ -1,8 +1,8 @@
 -- The front of a log is the longest beginning of whole blocks.
 use Rattle.std.proofs.Common.{◌≡◌, ◌⊎◌, inl, inr, ⊎_elim, ℕ, ◌+◌, ◌-◌, ◌*◌, ◌^◌, ◌<◌, ◌≤◌, List, [], ◌∷◌, ◌++◌}
-use Rattle.std.proofs.Common.{length, take, drop, Ok, sym, ap, subst, ◌∙◌, append_assoc, length-append}
+use Rattle.std.proofs.Common.{length, take, drop, Ok, Err, sym, ap, subst, ◌∙◌, append_assoc, length-append}
 use Rattle.std.proofs.Common.{arith}
-use Rattle.std.proofs.lemmas.List.{append-nil, length-drop, length-take, take_all}
+use Rattle.std.proofs.lemmas.List.{append-nil, append_cancel_left, length-drop, length-take, take_all}
 use Rattle.std.proofs.lemmas.Bool.{cases_lt}
 use Rattle.std.specs.Prelude.{min}
 use Rattle.std.specs.List.{AllByRecursion}
@@ -11,13 +11,15 @@ use Rattle.log_page.specs.Pages.{IsBytes}
 use Rattle.log_blocks.specs.Blocks.{Page, ArePages, IsBlock, block_pages, log_pages, place_behind}
 use Rattle.log_blocks.specs.Blocks.{Block as Chunks}
 use Rattle.log_blocks.specs.Files.{page_count}
-use Rattle.log_blocks.specs.Reading.{read_pages}
+use Rattle.log_blocks.specs.Reading.{IsTorn, read_pages}
 use Rattle.log_blocks.specs.declared.fault.LogFault.{LogFault}
-use Rattle.log_blocks.proofs.Sound.{read_holds}
+use Rattle.log_blocks.proofs.Counts.{torn_front}
+use Rattle.log_blocks.proofs.Sound.{fault_holds, logs_read, read_holds}
+use Rattle.log_blocks.proofs.Torn.{length-pages_from, settled_log_read}
 use Rattle.log_blocks.proofs.FilePages.{pages_push}
-use Rattle.log_head.specs.Heads.{HasHead}
+use Rattle.log_head.specs.Heads.{HasHead, RefusesPage}
 use Rattle.log_head.specs.declared.head.LogHead.{LogHead}
-use Rattle.log_head.proofs.HeadLaws.{one_head}
+use Rattle.log_head.proofs.HeadLaws.{no_fault as no_head_fault, one_head}
 use Rattle.log_read.specs.Logs.{AreBlocks, HoldsLog, HasBadBlock, HasBadPage, HasFaultBehind, pages_behind}
 use Rattle.log_read.specs.Outcomes.{HasLogFault, HasNoBlocks}
 use Rattle.log_read.specs.declared.file.Block.{Block}
@@ -26,7 +28,7 @@ use Rattle.log_read.proofs.LogFacts.{behind_are, length-pages}
 use Rattle.snap_salvage.specs.Fronts.{Begins, IsFront}
 use Rattle.snap_salvage.proofs.PartLemmas.{part_long, part_pages, same_head}
 use Rattle.snap_salvage.proofs.BlockLemmas.{all_but_last, begin_blocks, begun, blocks_in, fault_behind, front_are}
-use Rattle.snap_salvage.proofs.BlockLemmas.{last_end, none_held, ok_is_no_err, shorter_begins}
+use Rattle.snap_salvage.proofs.BlockLemmas.{fits_in, last_end, none_held, none_more, ok_is_no_err, shorter_begins}
 
 -- The first of the pages are a log of these blocks.
 pub record IsPart (s : Setting) (first : ℕ) (pages : List Page) (blocks : List Block) : Type 0 where
@@ -260,3 +262,217 @@ fault_front bytes fault file are few (inl short) holds = absurd (no_page bytes f
 fault_front bytes fault file are few (inr (inl none)) holds = absurd (no_page bytes fault file none.page_is holds)
 fault_front bytes fault file are few (inr (inr none)) holds =
     record { holds = holds; longest = fault_ends bytes fault file are few none holds }
+
+-- ---- before a fault
+
+module _ (s : Setting) (first : ℕ) (low : first ≤ 2 ^ 30) where
+  -- a beginning that has the pages of all blocks that are read is read as these
+  read_less : (front more : List Page) (good : List Chunks) → length (front ++ more) < 2 ^ 50 → ArePages (front ++ more) →
+      read_pages first (front ++ more) ≡ Ok good → length (log_pages first good) ≤ length front →
+      read_pages first front ≡ Ok good
+  read_less front more good few are read le =
+      let reads = read_holds first (front ++ more) good are read in
+      let on = shorter_begins (log_pages first good) reads.rest front more (sym reads.whole) le in
+      let rest : reads.rest ≡ on.0 ++ more =
+      append_cancel_left (log_pages first good) reads.rest (on.0 ++ more)
+      (sym reads.whole ∙ ap (λ (l : List Page). l ++ more) on.1
+      ∙ append_assoc (log_pages first good) on.0 more) in
+      let place = place_behind first good in
+      logs_read first front good (front_are front more are)
+      (fits_in first low (front ++ more) good reads.rest few reads.whole reads.each)
+      (record {
+        rest = on.0;
+        whole = on.1;
+        each = reads.each;
+        torn = torn_front place on.0 more (subst (λ (l : List Page). IsTorn place l) rest reads.torn);
+        unfinished = λ block behind fits fills is.
+            reads.unfinished block (behind ++ more) fits fills
+            (rest ∙ ap (λ (l : List Page). l ++ more) is ∙ append_assoc (block_pages place block) behind more);
+      })
+
+  -- so it is where it has no other pages
+  read_just : (front : List Page) (good : List Chunks) → front ≡ log_pages first good → AllByRecursion IsBlock good →
+      length front < 2 ^ 50 → read_pages first front ≡ Ok good
+  read_just front good is each few =
+      let nil : log_pages first good ++ [] ≡ log_pages first good = append-nil (log_pages first good) in
+      ap (read_pages first) (is ∙ sym nil)
+      ∙ settled_log_read first good 0 (fits_in first low front good [] few (is ∙ sym nil) each) each
+
+  -- what is read as these blocks, which hold batches, has no fault
+  no_fault_in : (pages : List Page) (found : List Chunks) (blocks : List Block) (fault : LogFault) → ArePages pages →
+      length pages < 2 ^ 50 → read_pages first pages ≡ Ok found → AreBlocks s 1 found blocks →
+      HasFaultBehind s first pages fault → ⊥
+  no_fault_in pages found blocks fault are few read held (inl bad) =
+      ok_is_no_err found fault (sym read ∙ ap (read_pages first) bad.pages_are ∙ bad.refused bad.behind)
+  no_fault_in pages found blocks fault are few read held (inr bad) =
+      let more = begun first low bad.front bad.behind (bad.good ++ bad.block ∷ []) found
+      (omega (arith, ap (λ (l : List Page). length l) bad.pages_are, length-append bad.front bad.behind, few))
+      (front_are bad.front bad.behind (subst (λ (l : List Page). ArePages l) bad.pages_are are)) bad.read
+      (ap (read_pages first) (sym bad.pages_are) ∙ read) in
+      none_held s found bad.good more.0 bad.block blocks more.1 held bad.none
+
+  -- a fault of a page isn't behind that page
+  fault_within : (front : List Page) (page : Page) (fault : LogFault) → ArePages (front ++ page ∷ []) →
+      read_pages first (front ++ page ∷ []) ≡ Err fault → fault.page ≤ 1 + length front
+  fault_within front page fault are read = elim (fault_holds first (front ++ page ∷ []) fault are read) [
+    | inl (kind, bad) ↦ omega (
+      arith,
+      bad.numbered,
+      ap (λ (l : List Page). length l) bad.whole,
+      length-append front (page ∷ []),
+      length-append bad.front (bad.page ∷ bad.behind),
+    )
+    | inr (kind, bad) ↦ omega (
+      arith,
+      bad.numbered,
+      ap (λ (l : List Page). length l) bad.whole,
+      length-append front (page ∷ []),
+      length-append (log_pages first bad.blocks)
+          (block_pages (place_behind first bad.blocks) bad.block ++ bad.behind),
+      length-append (block_pages (place_behind first bad.blocks) bad.block) bad.behind,
+      length-pages_from (place_behind first bad.blocks) 0 (length bad.block) bad.block,
+      bad.fills.some,
+    )
+  ]
+
+  module _ (pages : List Page) (are : ArePages pages) (few : length pages < 2 ^ 50) (fault : LogFault)
+      (front rest : List Page) (whole : pages ≡ front ++ rest)
+      (long : length front ≡ min (fault.page - 1) (length pages)) where
+    -- The pages before the fault are read as blocks that hold batches.
+    record IsSound : Type 0 where
+      found : List Chunks
+      blocks : List Block
+      read : read_pages first front ≡ Ok found
+      held : AreBlocks s 1 found blocks
+
+    front_are_pages : ArePages front
+    front_are_pages = front_are front rest (subst (λ (l : List Page). ArePages l) whole are)
+
+    few_front : length front < 2 ^ 50
+    few_front = omega (arith, long, few)
+
+    before_fault : HasFaultBehind s first pages fault → IsSound
+    before_fault (inl bad) =
+        let with_page : pages ≡ (bad.front ++ bad.page ∷ []) ++ bad.behind =
+        bad.pages_are ∙ sym (append_assoc bad.front (bad.page ∷ []) bad.behind) in
+        let page_are : ArePages (bad.front ++ bad.page ∷ []) =
+        front_are (bad.front ++ bad.page ∷ []) bad.behind (subst (λ (l : List Page). ArePages l) with_page are) in
+        let within = fault_within bad.front bad.page fault page_are (bad.refused []) in
+        let bad_few : length bad.front < 2 ^ 50 =
+        omega (
+          arith,
+          ap (λ (l : List Page). length l) bad.pages_are,
+          length-append bad.front
+              (bad.page ∷ bad.behind),
+          few,
+        ) in
+        let bad_are = front_are bad.front (bad.page ∷ []) page_are in
+        let behind = fault_behind first low bad.front (bad.page ∷ []) bad.good fault bad_few bad_are bad.read
+        (bad.refused []) in
+        let reads = read_holds first bad.front bad.good bad_are bad.read in
+        let on = shorter_begins front rest bad.front (bad.page ∷ bad.behind) (sym whole ∙ bad.pages_are)
+        (omega (arith, long, within)) in
+        record {
+          found = bad.good;
+          blocks = bad.blocks;
+          read = read_less front on.0 bad.good (subst (λ (l : List Page). length l < 2 ^ 50) on.1 bad_few)
+              (subst (λ (l : List Page). ArePages l) on.1 bad_are) (ap (read_pages first) (sym on.1) ∙ bad.read)
+              (omega (
+                arith,
+                long,
+                behind,
+                ap (λ (l : List Page). length l) bad.pages_are,
+                ap (λ (l : List Page). length l) reads.whole,
+                length-append bad.front (bad.page ∷ bad.behind),
+                length-append (log_pages first bad.good) reads.rest,
+              ));
+          held = bad.held;
+        }
+    before_fault (inr bad) =
+        let bad_few : length bad.front < 2 ^ 50 =
+        omega (arith, ap (λ (l : List Page). length l) bad.pages_are, length-append bad.front bad.behind, few) in
+        let bad_are = front_are bad.front bad.behind (subst (λ (l : List Page). ArePages l) bad.pages_are are) in
+        let reads = read_holds first bad.front (bad.good ++ bad.block ∷ []) bad_are bad.read in
+        let block = block_pages (place_behind first bad.good) bad.block in
+        let tail = (block ++ reads.rest) ++ bad.behind in
+        let parts : pages ≡ log_pages first bad.good ++ tail =
+        bad.pages_are ∙ ap (λ (l : List Page). l ++ bad.behind) (reads.whole
+        ∙ ap (λ (l : List Page). l ++ reads.rest) (pages_push first bad.good bad.block)
+        ∙ append_assoc (log_pages first bad.good) block reads.rest)
+        ∙ append_assoc (log_pages first bad.good) (block ++ reads.rest) bad.behind in
+        let page : fault.page ≡ 1 + length (log_pages first bad.good) =
+        bad.page_is ∙ last_end 1 0 first bad.good bad.block in
+        let same : length front ≡ length (log_pages first bad.good) =
+        omega (
+          arith,
+          long,
+          page,
+          ap (λ (l : List Page). length l) parts,
+          length-append (log_pages first bad.good) tail,
+        ) in
+        let on = shorter_begins (log_pages first bad.good) tail front rest (sym parts ∙ whole) (omega (arith, same)) in
+        let none : on.0 ≡ [] =
+        none_more on.0 (omega (
+          arith,
+          same,
+          ap (λ (l : List Page). length l) on.1,
+          length-append (log_pages first bad.good) on.0,
+        )) in
+        record {
+          found = bad.good;
+          blocks = bad.blocks;
+          read = read_just front bad.good (on.1 ∙ ap (λ (l : List Page). log_pages first bad.good ++ l) none
+              ∙ append-nil (log_pages first bad.good)) (first_of bad.good bad.block reads.each) few_front;
+          held = bad.held;
+        }
+      where
+        first_of : (good : List Chunks) (block : Chunks) → AllByRecursion IsBlock (good ++ block ∷ []) →
+            AllByRecursion IsBlock good
+        first_of [] block each = tt
+        first_of (g ∷ good) block each = (each.0, first_of good block each.1)
+
+    pub none_before : HasFaultBehind s first pages fault → (other : LogFault) → HasFaultBehind s first front other → ⊥
+    none_before bad other wrong =
+        let sound = before_fault bad in
+        no_fault_in front sound.found sound.blocks other front_are_pages few_front sound.read sound.held wrong
+
+module _ (bytes : List ℕ) (fault other : LogFault) (are : IsBytes bytes) (few : length bytes < 2 ^ 50)
+    (none : HasNoBlocks bytes fault) (some : 1 ≤ fault.page) where
+  n : ℕ
+  n = fault.page - 1
+
+  long_part : 4096 ≤ length (take (4096 * (n + 1)) bytes)
+  unfolding n
+  long_part = omega (arith, none.long, some, length-take (4096 * (fault.page - 1 + 1)) bytes)
+
+  no_fault_before : HasLogFault (take (4096 * (n + 1)) bytes) other → ⊥
+  unfolding n
+  no_fault_before (inl short) = omega (arith, long_part, short.short)
+  no_fault_before (inr (inl bad)) =
+      no_head_fault (take 4096 bytes) none.head other.kind none.has_head
+      (subst (λ (p : List ℕ). RefusesPage p other.kind) (same_head (4096 * (n + 1)) bytes long_part) bad.refuses)
+  no_fault_before (inr (inr bad)) =
+      let h = none.head in
+      let part = take (4096 * (n + 1)) bytes in
+      let head : bad.head ≡ h =
+      one_head (take 4096 bytes) bad.head h
+      (subst (λ (p : List ℕ). HasHead p bad.head) (same_head (4096 * (n + 1)) bytes long_part) bad.has_head)
+      none.has_head in
+      let behind = part_pages n bytes in
+      none_before h.setup h.first (low_first (take 4096 bytes) h none.has_head) (pages_behind bytes) (behind_are bytes are)
+      (few_pages bytes few) fault (pages_behind part) behind.0 behind.1 (part_long n bytes) none.behind other
+      (subst (λ (g : LogHead). HasFaultBehind g.setup g.first (pages_behind part) other) head bad.behind)
+
+  no_fault_there : HasLogFault (take (4096 * fault.page) bytes) other → ⊥
+  unfolding n
+  no_fault_there wrong =
+      let same : fault.page ≡ fault.page - 1 + 1 = omega (arith, some) in
+      no_fault_before (subst (λ (k : ℕ). HasLogFault (take (4096 * k) bytes) other) same wrong)
+
+-- the pages before that of a fault have none
+pub sound_before : (bytes : List ℕ) (fault other : LogFault) → IsBytes bytes → length bytes < 2 ^ 50 →
+    HasLogFault bytes fault → 1 ≤ fault.page → HasLogFault (take (4096 * fault.page) bytes) other → ⊥
+sound_before bytes fault other are few (inl short) some wrong = omega (arith, short.page_is, some)
+sound_before bytes fault other are few (inr (inl none)) some wrong = omega (arith, none.page_is, some)
+sound_before bytes fault other are few (inr (inr none)) some wrong =
+    no_fault_there bytes fault other are few none some wrong

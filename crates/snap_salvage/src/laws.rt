@@ -18,3 +18,9 @@ pub fn fronts_end_at_faults()
     ensures { (bytes : List ℕ) (fault : LogFault) (file : LogFile) → IsBytes bytes → length bytes < 2 ^ 50 →
         HasLogFault bytes fault → HoldsLog (take (4096 * fault.page) bytes) file → IsFront bytes fault.page file }
 {}
+
+/// Where bytes have a fault, the pages before that of the fault have none.
+pub fn pages_before_faults_have_none()
+    ensures { (bytes : List ℕ) (fault other : LogFault) → IsBytes bytes → length bytes < 2 ^ 50 →
+        HasLogFault bytes fault → 1 ≤ fault.page → HasLogFault (take (4096 * fault.page) bytes) other → ⊥ }
+{}

@@ -19,7 +19,7 @@ mod torn_log;
 pub use count::count_pages;
 pub use front::Front;
 pub use front_end::FrontEnd;
-pub use laws::{fronts_end_at_faults, whole_logs_are_fronts};
+pub use laws::{fronts_end_at_faults, pages_before_faults_have_none, whole_logs_are_fronts};
 pub use left::Left;
 pub use no_snapshot::NoSnapshot;
 pub use salvage::run_salvage;
