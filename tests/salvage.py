@@ -18,7 +18,7 @@ import server
 from identity import F, FT, Files, OTHER, all_is_known, held_in, log_of, snap_of, total_of
 from log_bytes import PAGE, JoinFault, Log, LogFault, Setup, entry_of, joined, log, number_in, page_kind
 from log_check import LARGE, WIDE
-from server import WAIT, check, content
+from server import WAIT, accepted, check, content
 from server_faults import STOP, STOPPING, asked, in_folder, write
 from server_log import CLOSED, FIVE, THREE, TWO, hhm, kill, put_of, run_each, without
 from snap_bytes import BOOK, NONE, OWNED, PAIRED, UNKNOWN, Origin, Snapshot, field, snapshot, with_byte
@@ -57,7 +57,7 @@ def front_of(held):
     return best
 
 
-def left_behind(held, page):
+def left_after(held, page):
     """What the line says of the pages from this one on."""
     pages = [held[at : at + PAGE].ljust(PAGE, b"\0") for at in range(page * PAGE, len(held), PAGE)]
     whole = [one for one in pages if page_kind(one) == "whole"]
@@ -72,18 +72,18 @@ def line(batches, until):
 
 def wanted(known, held, origin=UNKNOWN):
     """The batches and the line of these batches of a snapshot, None where there is none, and the bytes of a log; or the
-    fault that is told."""
+    fault that is reported."""
     fault, found = fault_of(held), front_of(held)
     if found is None:
-        return (None, fault) if known is None else (known, line(known, fault + left_behind(held, 1)))
+        return (None, fault) if known is None else (known, line(known, fault + left_after(held, 1)))
     try:
         both = joined(known or [], found, found.setup, origin)
     except JoinFault as why:
         text = str(why).removeprefix("log: ")
         if known is None or not text.startswith("Gap"):
             return None, str(why)
-        return known, line(known, text + left_behind(held, 1))
-    return both, line(both, fault + left_behind(held, found.whole()) if fault else "the end")
+        return known, line(known, text + left_after(held, 1))
+    return both, line(both, fault + left_after(held, found.whole()) if fault else "the end")
 
 
 def saved(batches, origin, setup):
@@ -159,7 +159,7 @@ def each_block_is_damaged():
 
 
 def a_torn_end_is_no_fault():
-    """Cut behind any page, and within one: what a start cuts off too. A log that reads whole is its own front."""
+    """Cut after any page, and within one: what a start cuts off too. A log that reads whole is its own front."""
     for end in [*range(PAGE, len(WHOLE) + 1, PAGE), *(len(WHOLE) - it for it in (3_000, 4_050, 4_096 + 2_000))]:
         _, out, batches = is_salvaged(f"cut to {end}", None, WHOLE[:end], WIDER)
         check(f"cut to {end}: no fault", fault_of(WHOLE[:end]), None)
@@ -201,7 +201,7 @@ def a_gap_leaves_the_snapshot():
         is_salvaged(f"{name} of an unknown book", [], log_bytes.with_book(behind, 0) if name == "a whole log" else behind)
 
 
-# A name, the snapshot, the log, what is told, and the status.
+# A name, the snapshot, the log, what is reported, and the status.
 REFUSED = [
     ("two books", snap_of(F, PAIRED), log_of(THREE, behind=F, origin=OTHER), "log: OtherBook", 3),
     ("two books and a gap", snap_of([], PAIRED), log_of(THREE, behind=F, origin=OTHER), "log: OtherBook", 3),
@@ -225,7 +225,7 @@ def refused_files_leave_nothing():
         for damaged in (False, True):
             if damaged and (logged is None or len(Log(logged).blocks) == 0):
                 continue
-            # (behind the blocks comes a page that is damaged)
+            # (after the blocks comes a page that is damaged)
             held = logged + b"\1" * PAGE if damaged else logged
             files = Files(f"refused salvage {name} {damaged}", BOTH, snap, held)
             before = files.all_bytes()
@@ -248,7 +248,7 @@ def a_window_keeps_its_book():
     ]:
         held = changed(logged, len(logged) // PAGE - 1, 30, 9)
         files = Files(f"salvage {name}", BOTH, snap, held)
-        told = line([*folded, *batches], fault_of(held) + left_behind(held, len(held) // PAGE - 1))
+        told = line([*folded, *batches], fault_of(held) + left_after(held, len(held) // PAGE - 1))
         check(f"{name}: outputs", salvage(files, has_snap=snap is not None), (told, "", 0))
         made = held_in(os.path.join(files.folder, "out"))
         found = Snapshot(made).origin
@@ -312,7 +312,7 @@ def a_server_keeps_its_files():
     with copy.serve() as at:
         with at.link() as link:
             all_is_known("the front", link, F)
-            check("the front: the next", asked(link, put_of(TWO), 21)[:5], asked(link, put_of(TWO), 21)[:5])
+            check("the front: the next", asked(link, put_of(TWO), 21), accepted(1, 7))
             all_is_known("the front goes on", link, [*F, TWO])
             check("the front: stop", asked(link, STOP, 5), STOPPING)
         at.process.communicate(timeout=WAIT)
@@ -320,7 +320,7 @@ def a_server_keeps_its_files():
     check("both mixed", mixed.start(), ("", "hhm: log: OtherBook\n", 3))
 
 
-def what_is_told_of_a_start_helps():
+def what_a_start_refuses_is_helped():
     """Each fault of a log that a start refuses, as docs/OPERATING.md has it: the start is refused, the command makes a
     file, and a start takes that."""
     for name, snap, held in [
@@ -336,6 +336,13 @@ def what_is_told_of_a_start_helps():
         os.replace(os.path.join(files.folder, "out"), files.snap)
         os.rename(files.log, files.log + " old")
         check(f"{name}: a start after it", files.start()[1:], ("", 0))
+    # Of a log that can't be read whole, what can be is copied first.
+    files = Files("salvage of a copy", BOTH, snap_of(F, PAIRED), log_of(THREE, behind=F, origin=OWNED) + b"\1" * 100)
+    copy = os.path.join(files.folder, "copy")
+    words = ["dd", f"if={files.log}", f"of={copy}", "bs=4096", "conv=noerror,sync"]
+    check("a copy", subprocess.run(words, capture_output=True, timeout=WAIT).returncode, 0)
+    found = hhm("salvage", os.path.join(files.folder, "out"), files.snap, "--log", copy)
+    check("a copy: salvage", found, (line(FT, "Damaged at page 2 pages 1 whole 0 batches 0"), "", 0))
 
 
 def an_output_may_fail():
@@ -391,7 +398,7 @@ def all_are_tried():
         a_window_keeps_its_book,
         nothing_is_replaced,
         a_server_keeps_its_files,
-        what_is_told_of_a_start_helps,
+        what_a_start_refuses_is_helped,
         an_output_may_fail,
         strange_paths,
     )

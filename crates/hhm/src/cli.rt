@@ -169,7 +169,7 @@ standard output:
 B is how many batches OUT has, and T their total. The first line says that nothing
 was left out. Else the front ends at page P with the fault KIND, or the log begins
 at batch F, after the end of the snapshot, which is all that is salvaged then. Q is
-how many pages the log has behind what is salvaged that aren't empty, W how many of
+how many pages the log has after what is salvaged that aren't empty, W how many of
 them are whole, and N how many batches these say that they have. They are left out,
 since nobody knows what is missing before them.
 

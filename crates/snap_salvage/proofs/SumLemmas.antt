@@ -9,13 +9,13 @@ use Rattle.log_page.specs.Pages.{IsBytes}
 use Rattle.log_blocks.specs.Blocks.{Page, ArePages}
 use Rattle.log_blocks.specs.Files.{bytes_from, page_count, pages_of}
 use Rattle.log_blocks.proofs.FilePages.{listed_bytes, pages_same, pages_step}
-use Rattle.snap_salvage.specs.LeftPages.{HasCountedAll, HasNext, HasRead, IsCounted, left_behind, left_in, left_none}
+use Rattle.snap_salvage.specs.LeftPages.{HasCountedAll, HasNext, HasRead, IsCounted, left_after, left_in, left_none}
 use Rattle.snap_salvage.specs.LeftPages.{left_with}
 use Rattle.snap_salvage.specs.declared.left.Left.{Left}
 
 left_more : (left : Left) (ps : List Page) (p : Page) →
-    left_behind left (ps ++ p ∷ []) ≡ left_with (left_behind left ps) p
-unfolding left_behind
+    left_after left (ps ++ p ∷ []) ≡ left_with (left_after left ps) p
+unfolding left_after
 left_more left [] p = refl
 left_more left (q ∷ ps) p = left_more (left_with left q) ps p
 
@@ -25,7 +25,7 @@ pages_more (q ∷ ps) p are long bytes = (are.0, pages_more ps p are.1 long byte
 
 -- no page
 pub counted_none : (left : Left) → left ≡ left_none → IsCounted left
-unfolding left_behind
+unfolding left_after
 counted_none left is = record { pages = []; are_pages = tt; left_is = is }
 
 -- one page more
@@ -77,7 +77,7 @@ module _ {S : Type 0} (gives : S → Answer → S → Type 0) where
 
   pub counting_none : (s : S) (pending : List ℕ) (left : Left) → pending ≡ [] → left ≡ left_none →
       IsCounting s s pending 0 left
-  unfolding left_behind pages_of
+  unfolding left_after pages_of
   counting_none s pending left none is = record {
     done = [];
     long = omega arith;

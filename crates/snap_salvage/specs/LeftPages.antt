@@ -1,4 +1,4 @@
--- What is counted of the pages of a log behind its front.
+-- What is counted of the pages of a log after its front.
 --     begins_block p      the page says that it is the first one of a block
 --     claimed k p         how many batches a page of this kind says that its block has: that of a whole page with which
 --                         a block begins, where a book may have so many
@@ -7,7 +7,7 @@
 --     HasRead gives s t bytes
 --                         the calls from s to t gave these bytes
 --     HasNext gives s t pending done n page
---                         behind the bytes that were done with, n came that are the front of this page, which has 00 behind
+--                         after the bytes that were done with, n came that are the front of this page, which has 00 after
 --                         them, and others are pending
 --     HasCountedAll gives ended s t left
 --                         the calls gave some bytes to their end, and this is the count of their pages
@@ -33,12 +33,12 @@ whole_by Empty = 0
 whole_by Short = 0
 whole_by Spoilt = 0
 
-abbrev pub told_batches : Page → ℕ
-told_batches p = from_be_bytes w64 (take 8 (chunk_field p))
+abbrev pub claimed_number : Page → ℕ
+claimed_number p = from_be_bytes w64 (take 8 (chunk_field p))
 
 abbrev pub claimed : PageKind → Page → ℕ
 claimed kind p =
-    if is_whole kind && begins_block p && nat_le (told_batches p) (2 ^ 30) then told_batches p else 0
+    if is_whole kind && begins_block p && nat_le (claimed_number p) (2 ^ 30) then claimed_number p else 0
 
 abbrev pub left_none : Left
 left_none = record { pages = 0; whole = 0; batches = 0 }
@@ -50,13 +50,13 @@ left_with left p = record {
   batches = left.batches + claimed (kind_of p) p;
 }
 
--- these pages behind others that were counted
-unfoldable pub left_behind : Left → List Page → Left
-left_behind left [] = left
-left_behind left (p ∷ ps) = left_behind (left_with left p) ps
+-- these pages after others that were counted
+unfoldable pub left_after : Left → List Page → Left
+left_after left [] = left
+left_after left (p ∷ ps) = left_after (left_with left p) ps
 
 abbrev pub left_in : List Page → Left
-left_in pages = left_behind left_none pages
+left_in pages = left_after left_none pages
 
 -- what was counted is this of some pages
 pub record IsCounted (left : Left) : Type 0 where

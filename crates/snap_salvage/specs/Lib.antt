@@ -3,4 +3,4 @@ pub mod Lines
 pub mod Fronts
 pub mod Found
 pub mod Salvages
-pub mod Told
+pub mod Reported

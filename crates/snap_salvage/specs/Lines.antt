@@ -1,9 +1,9 @@
 -- What `salvage` says.
 --     kind_name kind      the name of a fault of a log
---     left_text left      the numbers of what is left behind
---     end_text end left   what ends the batches, and what is left behind
+--     left_text left      the numbers of what is left out
+--     end_text end left   what ends the batches, and what is left out
 --     salvage_line batches total end left
---                         the line: so many batches, their total, what ends them, and what is left behind
+--                         the line: so many batches, their total, what ends them, and what is left out
 use Rattle.std.specs.Prelude.{ℕ, List, [], ◌∷◌, ◌++◌, codes, decimal}
 use Rattle.log_blocks.specs.declared.fault.LogKind.{LogKind}
 use Rattle.log_blocks.specs.declared.fault.LogKind.TheVariants as kind

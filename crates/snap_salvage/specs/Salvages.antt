@@ -60,7 +60,7 @@ HasCounted lefts u v until.Whole from left = v ≡ u
 HasCounted lefts u v (until.Fault fault) from left = lefts u from (Ok left) v
 HasCounted lefts u v (until.Gap first) from left = lefts u from (Ok left) v
 
--- What was read of both files, what both have, where that ends, and what is left behind.
+-- What was read of both files, what both have, where that ends, and what is left out.
 pub record HasSalvaged {F L : Type 0} (loads : F → ℕ → Result Saved FileFault → F → Type 0)
     (reads fronts : L → ℕ → Result LogFile LogFileFault → L → Type 0)
     (lefts : L → ℕ → Result Left LogFileFault → L → Type 0) (s t : F) (u v : L) (x : Saved) (end : FrontEnd)

@@ -14,7 +14,7 @@ use std::cmp;
 /// The most pages that a log has.
 pub(crate) const MOST_PAGES: u64 = 1 << 28;
 
-// Copies the first bytes of a page, and 00 behind them.
+// Copies the first bytes of a page, and 00 after them.
 fn copy_page(bytes: &[u8], page: &mut [u8; PAGE])
     ensures long { length page.new ≡ 4096 }
     ensures bytes { IsBytes page.new }
@@ -63,7 +63,7 @@ fn hand_on(buffer: &mut ReadBuffer, page: &mut [u8; PAGE]) -> usize
     count
 }
 
-// The next page, with 00 behind the end of the bytes; how many bytes of it came: fewer than all only at the end.
+// The next page, with 00 after the end of the bytes; how many bytes of it came: fewer than all only at the end.
 fn next_page<S: Source>(
     buffer: &mut ReadBuffer,
     source: &mut S,

@@ -1,7 +1,7 @@
 //! Finds the front of a log.
 ghost use Rattle.std.specs.Prelude.{◌≡◌, ◌≤◌, ◌+◌, true, IfOk, IfErr};
 ghost use Rattle.snap_salvage.specs.Found.{HasFault, HasFront, IsFrontRead, IsWrong};
-ghost use Rattle.snap_salvage.specs.Told.{IsFrontUnread};
+ghost use Rattle.snap_salvage.specs.Reported.{IsFrontUnread};
 ghost use Rattle.snap_salvage.specs.declared.front.Front.{Front};
 
 use crate::count::MOST_PAGES;
@@ -43,8 +43,8 @@ fn read_before<L: TornLog>(alloc: Global, log: &mut L, fault: LogFault) -> Resul
     ensures front { IfOk result (λ front. (u : L) → HasFault L.read_gives u log.old fault →
         HasFront L.read_gives L.front_gives u log.new front) }
     ensures read { IfOk result IsFrontRead }
-    ensures told { IfErr result (λ told. (u : L) → HasFault L.read_gives u log.old fault →
-        IsFrontUnread L.read_gives L.front_gives u log.new told) }
+    ensures reported { IfErr result (λ reported. (u : L) → HasFault L.read_gives u log.old fault →
+        IsFrontUnread L.read_gives L.front_gives u log.new reported) }
 {
     if fault.page == 0 {
         return Ok(Front::Headless(fault));
@@ -64,7 +64,7 @@ fn read_before<L: TornLog>(alloc: Global, log: &mut L, fault: LogFault) -> Resul
 pub(crate) fn find_front<L: TornLog>(alloc: Global, log: &mut L) -> Result<Front, CheckFault>
     ensures front { IfOk result (HasFront L.read_gives L.front_gives log.old log.new) }
     ensures read { IfOk result IsFrontRead }
-    ensures told { IfErr result (IsFrontUnread L.read_gives L.front_gives log.old log.new) }
+    ensures reported { IfErr result (IsFrontUnread L.read_gives L.front_gives log.old log.new) }
 {
     match log.read(alloc, LOG_BYTES) {
         Ok(file) => Ok(Front::Whole(file)),

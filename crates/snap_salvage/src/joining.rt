@@ -10,7 +10,7 @@ ghost use Rattle.snap_report.specs.Kept.{most_bytes};
 ghost use Rattle.snap_report.specs.Logged.{IsRead, IsUnjoined};
 ghost use Rattle.snap_salvage.specs.Found.{IsFrontRead};
 ghost use Rattle.snap_salvage.specs.Salvages.{IsGap, IsOfBoth, IsSalvaged};
-ghost use Rattle.snap_salvage.specs.Told.{IsApart, IsUnsalvaged};
+ghost use Rattle.snap_salvage.specs.Reported.{IsApart, IsUnsalvaged};
 ghost use Rattle.snap_salvage.specs.declared.front_end.FrontEnd.{FrontEnd};
 
 use crate::front::Front;

@@ -8,7 +8,7 @@ use log_page::{PAGE, PageKind, batches_told, page_kind};
 /// The most batches that a book may have, so that a page that says more says nothing.
 const MOST_BATCHES: u64 = 1 << 30;
 
-/// The pages that are left behind the front of a log. They can't be trusted, since nobody knows what is missing before
+/// The pages after the front of a log. They can't be trusted, since nobody knows what is missing before
 /// them.
 #[derive(Clone, Copy, Debug, PartialEq, Eq)]
 pub struct Left {

@@ -41,7 +41,7 @@ fn name_of(kind: LogKind) -> &'static str
     }
 }
 
-// Appends what is left behind.
+// Appends what is left out.
 fn push_left(line: &mut ArrayString<LINE_CAPACITY>, left: &Left)
     requires room { array_string_len line.old ≤ 160 }
     ensures bytes { line.new.bytes ≡ line.old.bytes ++ left_text left.now }

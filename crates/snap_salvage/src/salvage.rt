@@ -9,7 +9,7 @@ ghost use Rattle.snap_report.specs.Logged.{HasFound};
 ghost use Rattle.snap_report.specs.Made.{IsMade};
 ghost use Rattle.snap_salvage.specs.Lines.{salvage_line};
 ghost use Rattle.snap_salvage.specs.Salvages.{HasCounted, HasSalvaged, salvage_origin};
-ghost use Rattle.snap_salvage.specs.Told.{IsMadeTold, IsMakeTold, IsSnapshotUnread, IsUncounted, IsUnmade};
+ghost use Rattle.snap_salvage.specs.Reported.{IsMadeReported, IsMakeReported, IsSnapshotUnread, IsUncounted, IsUnmade};
 ghost use Rattle.snap_salvage.specs.declared.front_end.FrontEnd.{FrontEnd};
 ghost use Rattle.snap_salvage.specs.declared.left.Left.{Left};
 
@@ -37,7 +37,7 @@ fn load_if_any<F: SnapshotFile>(alloc: Global, file: &mut F) -> Result<Option<Sn
     }
 }
 
-// Counts what the log has behind what is salvaged.
+// Counts what the log has after what is salvaged.
 fn count_left<L: TornLog>(
     alloc: Global,
     log: &mut L,
@@ -98,7 +98,7 @@ fn write_salvaged<W: Sink>(
     requires accepted { AreAccepted setup.now (accepted_in list.now) }
     ensures written { OnOk result (HasTaken W.write_takes W.failure_count w.old w.new
         (salvage_line (count_in (accepted_in list.now)) (total_in (accepted_in list.now)) end left.now)) }
-    ensures told { IfErr result (λ f. (fault : WriteFault) × (f ≡ MakeFault.Output fault)
+    ensures reported { IfErr result (λ f. (fault : WriteFault) × (f ≡ MakeFault.Output fault)
         × HasStopped W.write_takes W.failure_count w.old w.new
         (salvage_line (count_in (accepted_in list.now)) (total_in (accepted_in list.now)) end left.now) fault.written) }
 {
@@ -124,7 +124,7 @@ fn make_salvaged<N: NewSnapshot, W: Sink>(
     ensures written { OnOk result (HasTaken W.write_takes W.failure_count w.old w.new
         (salvage_line (count_in (accepted_in salvage.snapshot.list)) (total_in (accepted_in salvage.snapshot.list))
         salvage.end left.now)) }
-    ensures told { IfErr result (IsMakeTold N.make_gives W.write_takes W.failure_count new.old new.new w.old w.new
+    ensures reported { IfErr result (IsMakeReported N.make_gives W.write_takes W.failure_count new.old new.new w.old w.new
         (salvage_origin book salvage.snapshot.origin) salvage.snapshot.setup (accepted_in salvage.snapshot.list)
         (salvage_line (count_in (accepted_in salvage.snapshot.list)) (total_in (accepted_in salvage.snapshot.list))
         salvage.end left.now)) }
@@ -151,7 +151,7 @@ fn make_salvaged<N: NewSnapshot, W: Sink>(
 /// B is how many batches the new one has, and T their total. END is `the end` where nothing is wrong with the log. Else it
 /// is the fault that ends the front, as a start reports it, or `Gap at batch F` where the log begins after the end of the
 /// snapshot, which is all that is salvaged then; and `pages Q whole W batches N` follows: how many pages that aren't empty
-/// the log has behind what is salvaged, how many of them are whole, and how many batches these claim.
+/// the log has after what is salvaged, how many of them are whole, and how many batches these claim.
 ///
 /// The new one is of another book, but where the files say a window, and no log goes with it. Nothing of the files that
 /// are read is changed. The log is read up to three times: hold its lock.
@@ -181,10 +181,10 @@ pub fn run_salvage<F: SnapshotFile, L: TornLog, N: NewSnapshot, W: Sink>(
         (salvage_line (count_in (accepted_in x.list)) (total_in (accepted_in x.list)) end left)))) }
     // A fault of the reading is what these calls have answered, or that the two don't belong together, and then nothing
     // was made or written. One of the making, or of the line, is what comes of it.
-    ensures told { IfErr result (λ fault.
+    ensures reported { IfErr result (λ fault.
         IsUnmade F.load_gives L.read_gives L.front_gives L.left_gives file.old file.new log.old log.new new.old new.new
         w.old w.new fault
-        ⊎ IsMadeTold F.load_gives L.read_gives L.front_gives L.left_gives N.make_gives W.write_takes W.failure_count
+        ⊎ IsMadeReported F.load_gives L.read_gives L.front_gives L.left_gives N.make_gives W.write_takes W.failure_count
         file.old file.new log.old log.new new.old new.new w.old w.new book fault) }
 {
     let found = load_if_any(alloc, file)?;

@@ -20,7 +20,7 @@ use std::fs::{self, File, OpenFile};
 use std::io::{self, Read, Seek, SeekFrom, Take};
 use std::rt::Files;
 
-/// The file of a log of which parts are read.
+/// The file of a log that is read in parts.
 ///
 /// As of a `KeptLog`, one call is a relation between what is before it, its answer and what is after it.
 pub trait TornLog: KeptLog {
@@ -44,7 +44,7 @@ pub trait TornLog: KeptLog {
         ensures left { IfOk result IsCounted };
 }
 
-/// The log's file under a path, and who is told of what is read of it. Its lock isn't taken.
+/// The log's file under a path, and who watches the reading of it. Its lock isn't taken.
 #[derive(Drop)]
 pub struct NamedTornLog<'a, R: Files, W: Watch> {
     rt: &'a R,

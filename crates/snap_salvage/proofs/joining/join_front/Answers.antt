@@ -1,7 +1,7 @@
 use Rattle.std.proofs.Common.{subst, sym}
 use Rattle.std.specs.Prelude.{IfOk, IfErr}
 use Rattle.snap_salvage.specs.Salvages.{IsSalvaged}
-use Rattle.snap_salvage.specs.Told.{IsUnsalvaged}
+use Rattle.snap_salvage.specs.Reported.{IsUnsalvaged}
 use Rattle.snap_salvage.specs.declared.front.Front.{Front}
 use Rattle.snap_salvage.proofs.joining.join_front.Goals as goal
 

@@ -29,13 +29,13 @@ returns-clause-made g c =
       ),
     )) c.make_salvaged.ensures.made c.make_salvaged.ensures.written
 
-pub returns-in_err-salvage-clause-told : goal.returns-in_err-salvage-clause-told
-returns-in_err-salvage-clause-told g c =
+pub returns-in_err-salvage-clause-reported : goal.returns-in_err-salvage-clause-reported
+returns-in_err-salvage-clause-reported g c =
     passed_on c.from_residual-in_err-salvage.result _ (Read c.in_err-salvage.field-0.0)
     c.from_residual-in_err-salvage.ensures.1 (inl (record {
       why = c.in_err-salvage.field-0.0;
       fault_is = refl;
-      told = inr (inr (inl (record {
+      reported = inr (inr (inl (record {
         found = c.in_ok-found.found;
         front = c.in_ok-front.front;
         loaded = c.in_ok-found.ensures.ok;
@@ -46,13 +46,13 @@ returns-in_err-salvage-clause-told g c =
       unwritten = refl;
     }))
 
-pub returns-in_err-left-clause-told : goal.returns-in_err-left-clause-told
-returns-in_err-left-clause-told g c =
+pub returns-in_err-left-clause-reported : goal.returns-in_err-left-clause-reported
+returns-in_err-left-clause-reported g c =
     passed_on c.from_residual-in_err-left.result _ (Read c.in_err-left.field-0.0)
     c.from_residual-in_err-left.ensures.1 (inl (record {
       why = c.in_err-left.field-0.0;
       fault_is = refl;
-      told = inr (inr (inr (record {
+      reported = inr (inr (inr (record {
         found = c.in_ok-found.found;
         front = c.in_ok-front.front;
         x = c.in_ok-salvage.salvage.snapshot;
@@ -68,10 +68,10 @@ returns-in_err-left-clause-told g c =
       unwritten = refl;
     }))
 
-pub returns-clause-told : goal.returns-clause-told
-returns-clause-told g c =
+pub returns-clause-reported : goal.returns-clause-reported
+returns-clause-reported g c =
     let salvage = c.in_ok-salvage.salvage in
-    if_err c.make_salvaged.result (λ (fault : MakeFault) told. inr (record {
+    if_err c.make_salvaged.result (λ (fault : MakeFault) reported. inr (record {
       x = salvage.snapshot;
       end = salvage.end;
       left = c.in_ok-left.left;
@@ -85,5 +85,5 @@ returns-clause-told g c =
         salvaged = c.in_ok-salvage.ensures.both;
         counted = c.in_ok-left.ensures.ok;
       };
-      told = told;
-    })) c.make_salvaged.ensures.told
+      reported = reported;
+    })) c.make_salvaged.ensures.reported

@@ -12,11 +12,11 @@
 --                         so for the front of a log; and there is no snapshot where the log has no head
 --     IsUncounted lefts u v from fault
 --                         the log's file has answered the count of the pages from this one on with this fault
---     IsReadTold .. fault what is told of the reading of both
---     IsMakeTold makes takes failures a b p q o v accepted line fault
+--     IsReadReported .. fault what is reported of the reading of both
+--     IsMakeReported makes takes failures a b p q o v accepted line fault
 --                         the new file, which went from a to b, has answered with this fault, and nothing was written; or
 --                         that it was made, and the sink, which went from p to q, didn't take the whole line
---     IsMadeTold .. fault so it was, once both had been read and counted
+--     IsMadeReported .. fault so it was, once both had been read and counted
 --     IsUnmade .. fault   a fault of the reading, after which nothing was made or written
 use Rattle.std.specs.Prelude.{◌≡◌, ◌≢◌, ◌⊎◌, ℕ, List, Option, None, Result, Ok, Err}
 use Rattle.byte_io.specs.Streams.{Answer}
@@ -89,16 +89,16 @@ pub record IsUncounted {L : Type 0} (lefts : L → ℕ → Result Left LogFileFa
   pub fault_is : fault ≡ fault_of_log why
   pub counted : lefts u from (Err why) v
 
--- the snapshot was found, or that there is none, and then this is told of the log
-pub record IsFrontTold {F L : Type 0} (loads : F → ℕ → Result Saved FileFault → F → Type 0)
+-- the snapshot was found, or that there is none, and then this is reported of the log
+pub record IsFrontReported {F L : Type 0} (loads : F → ℕ → Result Saved FileFault → F → Type 0)
     (reads fronts : L → ℕ → Result LogFile LogFileFault → L → Type 0) (s t : F) (u v : L) (fault : CheckFault) :
     Type 0 where
   pub found : Option Saved
   pub loaded : HasFound loads s t found
   pub unread : IsFrontUnread reads fronts u v fault
 
--- both were read, and then this is told of them
-pub record IsApartTold {F L : Type 0} (loads : F → ℕ → Result Saved FileFault → F → Type 0)
+-- both were read, and then this is reported of them
+pub record IsApartReported {F L : Type 0} (loads : F → ℕ → Result Saved FileFault → F → Type 0)
     (reads fronts : L → ℕ → Result LogFile LogFileFault → L → Type 0) (s t : F) (u v : L) (fault : CheckFault) :
     Type 0 where
   pub found : Option Saved
@@ -107,8 +107,8 @@ pub record IsApartTold {F L : Type 0} (loads : F → ℕ → Result Saved FileFa
   pub read : HasFront reads fronts u v front
   pub unsalvaged : IsUnsalvaged found front fault
 
--- both were put together, and then this is told of the count
-pub record IsCountTold {F L : Type 0} (loads : F → ℕ → Result Saved FileFault → F → Type 0)
+-- both were put together, and then this is reported of the count
+pub record IsCountReported {F L : Type 0} (loads : F → ℕ → Result Saved FileFault → F → Type 0)
     (reads fronts : L → ℕ → Result LogFile LogFileFault → L → Type 0)
     (lefts : L → ℕ → Result Left LogFileFault → L → Type 0) (s t : F) (u v : L) (fault : CheckFault) : Type 0 where
   pub found : Option Saved
@@ -122,25 +122,25 @@ pub record IsCountTold {F L : Type 0} (loads : F → ℕ → Result Saved FileFa
   pub salvaged : IsSalvaged found front x end from
   pub uncounted : IsUncounted lefts between v from fault
 
-abbrev pub IsReadTold : {F L : Type 0} → (F → ℕ → Result Saved FileFault → F → Type 0) →
+abbrev pub IsReadReported : {F L : Type 0} → (F → ℕ → Result Saved FileFault → F → Type 0) →
     (L → ℕ → Result LogFile LogFileFault → L → Type 0) → (L → ℕ → Result LogFile LogFileFault → L → Type 0) →
     (L → ℕ → Result Left LogFileFault → L → Type 0) → F → F → L → L → CheckFault → Type 0
-IsReadTold loads reads fronts lefts s t u v fault =
+IsReadReported loads reads fronts lefts s t u v fault =
     (IsSnapshotUnread loads s t fault × (v ≡ u))
-    ⊎ (IsFrontTold loads reads fronts s t u v fault
-    ⊎ (IsApartTold loads reads fronts s t u v fault ⊎ IsCountTold loads reads fronts lefts s t u v fault))
+    ⊎ (IsFrontReported loads reads fronts s t u v fault
+    ⊎ (IsApartReported loads reads fronts s t u v fault ⊎ IsCountReported loads reads fronts lefts s t u v fault))
 
-abbrev pub IsMakeTold : {N W : Type 0} → (N → Origin → Setting → Accepted → Result (Unit {0}) SaveFault → N → Type 0) →
+abbrev pub IsMakeReported : {N W : Type 0} → (N → Origin → Setting → Accepted → Result (Unit {0}) SaveFault → N → Type 0) →
     (W → List ℕ → Answer → W → Type 0) → (W → ℕ) → N → N → W → W → Origin → Setting → Accepted → List ℕ → MakeFault →
     Type 0
-IsMakeTold makes takes failures a b p q o v accepted line (Save fault) =
+IsMakeReported makes takes failures a b p q o v accepted line (Save fault) =
     makes a o v accepted (Err fault) b × (q ≡ p)
-IsMakeTold makes takes failures a b p q o v accepted line (Output fault) =
+IsMakeReported makes takes failures a b p q o v accepted line (Output fault) =
     makes a o v accepted (Ok tt) b × HasStopped takes failures p q line fault.written
-IsMakeTold makes takes failures a b p q o v accepted line _ = ⊥
+IsMakeReported makes takes failures a b p q o v accepted line _ = ⊥
 
--- both were read and counted, and then this is told of what was made of them
-pub record IsMadeTold {F L N W : Type 0} (loads : F → ℕ → Result Saved FileFault → F → Type 0)
+-- both were read and counted, and then this is reported of what was made of them
+pub record IsMadeReported {F L N W : Type 0} (loads : F → ℕ → Result Saved FileFault → F → Type 0)
     (reads fronts : L → ℕ → Result LogFile LogFileFault → L → Type 0)
     (lefts : L → ℕ → Result Left LogFileFault → L → Type 0)
     (makes : N → Origin → Setting → Accepted → Result (Unit {0}) SaveFault → N → Type 0)
@@ -150,7 +150,7 @@ pub record IsMadeTold {F L N W : Type 0} (loads : F → ℕ → Result Saved Fil
   pub end : FrontEnd
   pub left : Left
   pub salvaged : HasSalvaged loads reads fronts lefts s t u v x end left
-  pub told : IsMakeTold makes takes failures a b p q (salvage_origin book x.origin) x.setup (accepted_in x.list)
+  pub reported : IsMakeReported makes takes failures a b p q (salvage_origin book x.origin) x.setup (accepted_in x.list)
       (salvage_line (count_in (accepted_in x.list)) (total_in (accepted_in x.list)) end left) fault
 
 pub record IsUnmade {F L N W : Type 0} (loads : F → ℕ → Result Saved FileFault → F → Type 0)
@@ -159,6 +159,6 @@ pub record IsUnmade {F L N W : Type 0} (loads : F → ℕ → Result Saved FileF
     (fault : MakeFault) : Type 0 where
   pub why : CheckFault
   pub fault_is : fault ≡ Read why
-  pub told : IsReadTold loads reads fronts lefts s t u v why
+  pub reported : IsReadReported loads reads fronts lefts s t u v why
   pub unmade : b ≡ a
   pub unwritten : q ≡ p
