@@ -20,7 +20,7 @@ TOP = Path(__file__).resolve().parent.parent
 OF_HHM = (
     "program.py", "questions.py", "exports.py", "log_check.py", "logged.py", "clients.py", "asked.py", "asking.py", "stats.py", "reading.py",
     "loading.py", "packages.py", "cluster.py", "bridges.py", "pictures.py", "analysis.py", "watching.py", "server.py",
-    "generated.py", "folding.py", "own_saves.py", "server_faults.py", "server_log.py", "identity.py", "forking.py",
+    "generated.py", "folding.py", "own_saves.py", "server_faults.py", "server_log.py", "identity.py", "forking.py", "salvage.py",
     "fold_files.py", "growing.py", "server_log_faults.py", "log_events.py", "call_order.py", "log_torture.py",
     "server_paths.py", "server_ends.py", "progress.py", "server_clients.py", "install.py", "distribution.py",
     "examples.py", "windows.py", "rolls.py", "backups.py",

@@ -155,6 +155,47 @@ failed:
   hhm: output failed after N bytes status 4
   hhm: memory                      status 5";
 
+const SALVAGE_ABOUT: &str = "Make a snapshot of what can be read of files that a start refuses";
+
+const SALVAGE_HELP: &str = "\
+Reads the snapshot in the file PATH, if one is given, and the front of the log in
+the file LOG, which ends before the first page with a fault. Makes a new snapshot
+of what both have, as a start joins them, in the file OUT, and writes one line to
+standard output:
+
+  salvaged B total T until the end
+  salvaged B total T until KIND at page P pages Q whole W batches N
+  salvaged B total T until Gap at batch F pages Q whole W batches N
+
+B is how many batches OUT has, and T their total. The first line says that nothing
+was left out. Else the front ends at page P with the fault KIND, or the log begins
+at batch F, after the end of the snapshot, which is all that is salvaged then. Q is
+how many pages the log has after what is salvaged that aren't empty, W how many of
+them are whole, and N how many batches these say that they have. They are left out,
+since nobody knows what is missing before them.
+
+OUT is of a new book, but for the files of a window, and goes with no log. PATH and
+the log stay as they are; their locks are held. Where the head of the log is damaged
+the snapshot alone is salvaged, and without one nothing is. Without PATH the log
+must begin with the first batch.
+
+A fault is one line on standard error, and OUT isn't made, but where the output
+failed:
+
+  hhm: settings: BadPath (OUT), (PATH), (LOG)  status 2 (it ends in .new or .lock)
+  hhm: settings: LogDiffers        status 2
+  hhm: file: Exists (OUT)          status 4
+  hhm: file: OpenFailed, Busy      status 4
+  hhm: log: NotFound, OpenFailed, Busy    status 4
+  hhm: snapshot: KIND              status 3 (KIND Read: 4)
+  hhm: log: KIND at page N         status 3 (KIND Read: 4)
+  hhm: log: OtherBook, LinkDiffers status 3
+  hhm: log: Gap, EntryDiffers, NotFresh at batch N  status 3
+  hhm: file: Create, Write, Sync, Rename  status 4
+  hhm: no random numbers           status 4
+  hhm: output failed after N bytes status 4
+  hhm: memory                      status 5";
+
 const CUTS_HELP: &str =
     "The cuts of the layers, rising, each 1 to 1099511627776, at most 7, with commas between; or none";
 
@@ -236,6 +277,31 @@ fn fork_command<'a>(alloc: Global) -> Result<Command<'a>, AllocError> {
         .arg(log)
 }
 
+// `salvage`, which makes a file too.
+fn salvage_command<'a>(alloc: Global) -> Result<Command<'a>, AllocError> {
+    let out = Arg::new(alloc, "out")
+        .value_name("OUT")
+        .required(true)
+        .value_parser(ValueParser::NonEmptyString)
+        .help("The file to make, where nothing may be");
+    let path = Arg::new(alloc, "path")
+        .value_name("PATH")
+        .value_parser(ValueParser::NonEmptyString)
+        .help("The snapshot's file");
+    let log = Arg::new(alloc, "log")
+        .long("log")
+        .value_name("LOG")
+        .required(true)
+        .value_parser(ValueParser::NonEmptyString)
+        .help("The file of the log");
+    Command::new(alloc, "salvage")
+        .about(SALVAGE_ABOUT)
+        .after_help(SALVAGE_HELP)
+        .arg(out)?
+        .arg(path)?
+        .arg(log)
+}
+
 // The program without a word.
 fn program<'a>(alloc: Global) -> Result<Command<'a>, AllocError> {
     let program = Command::new(alloc, "hhm").bin_name("hhm")?;
@@ -266,6 +332,7 @@ pub fn command<'a>(alloc: Global) -> Result<Command<'a>, AllocError> {
     hhm = with(hhm, export_command(alloc))?;
     hhm = with(hhm, fold_command(alloc))?;
     hhm = with(hhm, fork_command(alloc))?;
+    hhm = with(hhm, salvage_command(alloc))?;
     hhm = with(hhm, top_command(alloc))?;
     hhm = with(hhm, list_command(alloc))?;
     hhm = with(hhm, degrees_command(alloc))?;

@@ -57,6 +57,7 @@ use snap_report::{
     run_fold_with_log, run_fork, run_fork_with_log,
 };
 use snap_roll::run_has;
+use snap_salvage::{NamedTornLog, NoSnapshot, run_salvage};
 use socket_server::{ServerFault, is_reserved};
 use std::alloc::AllocError;
 use std::io::IsTerminal;
@@ -139,6 +140,10 @@ fn run_matches(rt: &HostRuntime, matches: &ArgMatches) -> Result<Outcome, Fault>
         }
         Some(("fork", given)) => {
             run_fork_word(rt, given)?;
+            Ok(Outcome::Ended(ExitCode::SUCCESS))
+        }
+        Some(("salvage", given)) => {
+            run_salvage_word(rt, given)?;
             Ok(Outcome::Ended(ExitCode::SUCCESS))
         }
         Some(("has", given)) => Ok(Outcome::Ended(run_has_word(rt, given)?)),
@@ -411,6 +416,46 @@ fn fork(
     let mut log_line = progress_line(rt, false, Entries::Cells);
     let mut log = NamedLog::new(rt, log_path.as_str(), &mut log_line);
     run_fork_with_log(rt.alloc(), &mut file, &mut log, book, new, &mut out)?;
+    Ok(())
+}
+
+/// Makes a snapshot of what can be read of the one under a path, where one is given, and of a log. How far the reading of
+/// the snapshot has come is said on a terminal.
+fn run_salvage_word(rt: &HostRuntime, given: &ArgMatches) -> Result<(), Fault> {
+    let mut new = free_file(rt, given.get_str("out").unwrap_or(""))?;
+    let Some(book) = Identity::draw(rt) else {
+        return Err(Fault::NoRandom);
+    };
+    let mut line = progress_line(rt, rt.stderr().is_terminal(), Entries::Cells);
+    let outcome = salvage(rt, given, book, &mut new, &mut line);
+    clear(&mut line);
+    outcome
+}
+
+/// Makes it in a new file.
+fn salvage(
+    rt: &HostRuntime,
+    given: &ArgMatches,
+    book: Identity,
+    new: &mut NewFile<'_, HostRuntime>,
+    line: &mut Shown<'_>,
+) -> Result<(), Fault> {
+    let path = match given.get_str("path") {
+        Some(path) => Some(path_to_read(rt, path, Fault::BadPath)?),
+        None => None,
+    };
+    let log_path = path_to_read(rt, given.get_str("log").unwrap_or(""), Fault::BadLog)?;
+    let _lock = lock_log(rt, log_path.as_str())?;
+    let mut out = Counted::new(rt.stdout());
+    let mut log_line = progress_line(rt, false, Entries::Cells);
+    let mut log = NamedTornLog::new(rt, log_path.as_str(), &mut log_line);
+    match path {
+        Some(path) => {
+            let mut file = LockedFile::new(rt, path.as_str(), line);
+            run_salvage(rt.alloc(), &mut file, &mut log, book, new, &mut out)?;
+        }
+        None => run_salvage(rt.alloc(), &mut NoSnapshot, &mut log, book, new, &mut out)?,
+    }
     Ok(())
 }
 

@@ -28,13 +28,14 @@ pub enum Fault {
     /// A number or a list of an option doesn't have its form.
     #[error("settings: BadNumber")]
     BadNumber,
-    /// The path of the snapshot of `fold` or `fork` ends in `.new` or `.lock`: beside a file hhm makes others so named.
+    /// The path of the snapshot of `fold`, `fork` or `salvage` ends in `.new` or `.lock`: beside a file hhm makes others
+    /// so named.
     #[error("settings: BadPath (PATH)")]
     BadPath,
-    /// The path of the log of `fold` or `fork` ends so.
+    /// The path of the log of `fold`, `fork` or `salvage` ends so.
     #[error("settings: BadPath (LOG)")]
     BadLog,
-    /// The path that `fork` or `fold` is to make ends so.
+    /// The path that `fork`, `salvage` or `fold` is to make ends so.
     #[error("settings: BadPath (OUT)")]
     BadOut,
     /// The path of the coarser file of `roll` ends so.
@@ -43,7 +44,7 @@ pub enum Fault {
     /// The path of a window's file of `roll` ends so.
     #[error("settings: BadPath (FILE)")]
     BadFile,
-    /// Something is under the path that `fork` or `fold` is to make.
+    /// Something is under the path that `fork`, `salvage` or `fold` is to make.
     #[error("file: Exists (OUT)")]
     Exists,
     /// Another holds the lock of a log's path.
@@ -70,7 +71,7 @@ pub enum Fault {
     /// `fold` saved no snapshot, or didn't tell it.
     #[error(transparent)]
     Fold(FoldFault),
-    /// `fork`, or a `fold` with a log or into a new file, made no snapshot, or didn't report it.
+    /// `fork`, `salvage`, or a `fold` with a log or into a new file, made no snapshot, or didn't report it.
     #[error(transparent)]
     Make(MakeFault),
     /// `export`, `top`, `list` or `degrees`, or `check` of several, wrote nothing, or not all of it, or `export` saved

@@ -1,0 +1,6 @@
+mod SumLemmas
+mod PartLemmas
+mod BlockLemmas
+mod FrontLemmas
+mod PageLemmas
+mod SalvageLemmas
