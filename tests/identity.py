@@ -91,7 +91,7 @@ class Files:
         return [*SMALL, *(word for option in self.options for word in (option, paths[option])), *more]
 
     def serve(self, *more, **how):
-        return Server(self.words(*more), tcp=False, **{**self.how, **how})
+        return Server([*self.words(*more), *server.BY_HAND], tcp=False, **{**self.how, **how})
 
     def start(self, *more, **how):
         """What a server without connections writes to both outputs, without its address, and its status."""

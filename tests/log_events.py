@@ -33,7 +33,7 @@ def room_of(name):
 
 
 def told_server(room, *more, snapshot=True, setup=SMALL, **how):
-    words = [*setup, "--events", "--log", room.log, *(["--snapshot", room.snap] if snapshot else []), *more]
+    words = [*setup, *server.BY_HAND, "--events", "--log", room.log, *(["--snapshot", room.snap] if snapshot else []), *more]
     return Server(words, tcp=False, **{**room.how(), **how})
 
 
@@ -198,7 +198,7 @@ def a_last_log_that_fails_is_told():
     ]:
         for told in [True, False]:
             room = room_of(f"last {name} {told}")
-            words = [*SMALL, *(["--events"] if told else []), "--log", room.log, "--snapshot", room.snap]
+            words = [*SMALL, *server.BY_HAND, *(["--events"] if told else []), "--log", room.log, "--snapshot", room.snap]
             with Server(words, tcp=False, **room.how()) as at:
                 link = at.link()
                 check(f"last {name}: put", answer(link, put_of(FIVE)), accepted(0, 5))

@@ -30,6 +30,8 @@ from hhm_client import BANNER, Client, Refused, Status, cells_of, put_frame  # n
 PROGRAM = ""
 FOLDER = ""
 SMALL = ["--rows", "3", "--cols", "3", "--cuts", "2,4", "--shards", "2", "--limit", "100", "--max-batches", "10"]
+# Nothing is saved but what a client asks for, so a log that has failed stays so.
+BY_HAND = ["--save-log-above", "0"]
 WAIT = 120
 
 passed = 0

@@ -574,7 +574,7 @@ def a_log_that_is_taken_away_is_missed():
         folder, snaps = in_folder(name), in_folder(name + " snap")
         os.mkdir(folder)
         path = os.path.join(folder, "log")
-        with Server([*SMALL, "--log", path, "--snapshot", snaps], tcp=False) as at:
+        with Server([*SMALL, *server.BY_HAND, "--log", path, "--snapshot", snaps], tcp=False) as at:
             with at.link() as link, at.link() as other:
                 check(f"{name}: put", asked(link, put_of(FIVE), 21), accepted(0, 5))
                 way(path)

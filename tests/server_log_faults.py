@@ -44,7 +44,7 @@ def room_of(name):
 
 def serving(room, *more, snapshot=True, **how):
     """A server on the files of a room, whose calls the room's page can have fail."""
-    words = [*SMALL, "--log", room.log, *(["--snapshot", room.snap] if snapshot else []), *more]
+    words = [*SMALL, *server.BY_HAND, "--log", room.log, *(["--snapshot", room.snap] if snapshot else []), *more]
     return Server(words, tcp=False, **{**room.how(), **how})
 
 
