@@ -11,7 +11,6 @@ use Rattle.byte_io.specs.Writing.{HasTaken}
 use Rattle.plain_engine.specs.declared.status.Status.{Status}
 use Rattle.wire_proto.specs.Decoding.{IsReplyFrame, Said}
 use Rattle.ask_server.specs.declared.words.Save.{Save}
-use Rattle.ask_server.specs.declared.words.Save.TheVariants as Save
 
 pub record HasGiven {S : Type 0} (reads : S → Answer → S → Type 0) (s t : S) (old new : List ℕ) : Type 0 where
   pub answers : List Answer
