@@ -10,14 +10,14 @@ ghost use Rattle.snap_report.specs.Made.{IsMade};
 ghost use Rattle.snap_salvage.specs.Lines.{salvage_line};
 ghost use Rattle.snap_salvage.specs.Salvages.{HasCounted, HasSalvaged, salvage_origin};
 ghost use Rattle.snap_salvage.specs.Reported.{IsMadeReported, IsMakeReported, IsSnapshotUnread, IsUncounted, IsUnmade};
-ghost use Rattle.snap_salvage.specs.declared.front_end.FrontEnd.{FrontEnd};
+ghost use Rattle.snap_salvage.specs.declared.salvage_end.SalvageEnd.{SalvageEnd};
 ghost use Rattle.snap_salvage.specs.declared.left.Left.{Left};
 
 use crate::front::find_front;
-use crate::front_end::FrontEnd;
 use crate::joining::{Salvage, join_front};
 use crate::left::Left;
 use crate::line::line_of;
+use crate::salvage_end::SalvageEnd;
 use crate::torn_log::TornLog;
 use batch_store::{BookList, Setup};
 use byte_io::{Sink, write_all};
@@ -41,7 +41,7 @@ fn load_if_any<F: SnapshotFile>(alloc: Global, file: &mut F) -> Result<Option<Sn
 fn count_left<L: TornLog>(
     alloc: Global,
     log: &mut L,
-    end: FrontEnd,
+    end: SalvageEnd,
     from: u64,
 ) -> Result<Left, CheckFault>
     requires { from < 2 ^ 50 }
@@ -49,8 +49,8 @@ fn count_left<L: TornLog>(
     ensures err { IfErr result (IsUncounted L.left_gives log.old log.new from) }
 {
     match end {
-        FrontEnd::Whole => Ok(Left::none()),
-        FrontEnd::Fault(_) | FrontEnd::Gap(_) => {
+        SalvageEnd::Whole => Ok(Left::none()),
+        SalvageEnd::Fault(_) | SalvageEnd::Gap(_) => {
             let left = log.count_left(alloc, from)?;
             Ok(left)
         }
@@ -91,7 +91,7 @@ fn write_salvaged<W: Sink>(
     w: &mut W,
     setup: &Setup,
     list: &BookList,
-    end: FrontEnd,
+    end: SalvageEnd,
     left: &Left,
 ) -> Result<(), MakeFault>
     requires failures { W.failure_count w.old + 1 < 2 ^ 64 }
@@ -174,7 +174,7 @@ pub fn run_salvage<F: SnapshotFile, L: TornLog, N: NewSnapshot, W: Sink>(
     requires { W.failure_count w.old + 1 < 2 ^ 64 }
     // What was made is what the load of the snapshot's file and the front of the log have together, and the line says what
     // ends it, and what the count has answered.
-    ensures made { OnOk result ((x : Saved) × ((end : FrontEnd) × ((left : Left)
+    ensures made { OnOk result ((x : Saved) × ((end : SalvageEnd) × ((left : Left)
         × HasSalvaged F.load_gives L.read_gives L.front_gives L.left_gives file.old file.new log.old log.new x end left
         × IsMade N.make_gives new.old new.new (salvage_origin book x.origin) x.setup (accepted_in x.list)
         × HasTaken W.write_takes W.failure_count w.old w.new
