@@ -9,7 +9,7 @@ ghost use Rattle.snap_file.specs.Origins.{IsOtherBook};
 ghost use Rattle.snap_report.specs.Kept.{most_bytes};
 ghost use Rattle.snap_report.specs.Logged.{IsRead, IsUnjoined};
 ghost use Rattle.snap_salvage.specs.Found.{IsFrontRead};
-ghost use Rattle.snap_salvage.specs.Salvages.{IsGap, IsOfBoth, IsSalvaged};
+ghost use Rattle.snap_salvage.specs.Salvages.{IsOfBoth, IsSalvaged};
 ghost use Rattle.snap_salvage.specs.Reported.{IsApart, IsUnsalvaged};
 ghost use Rattle.snap_salvage.specs.declared.salvage_end.SalvageEnd.{SalvageEnd};
 
