@@ -6,10 +6,12 @@
 The front of a log is wanted as its definition has it: of all logs that the first pages of the file are, the one with
 the most batches. They are read by the plainer reader of log_bytes.py, and the bytes of the new file are written by
 snap_bytes.py from docs/FORMATS.md, with the book that it says. It prints a line for each check that fails and at the
-end `N passed, M failed`; the status is 1 where one fails. Linux and Python's own library.
+end `N passed, M failed`; the status is 1 where one fails. Linux, Python's own library and the toolchain of
+Rattle.
 """
 import os
 import random
+import re
 import subprocess
 import sys
 
@@ -18,6 +20,7 @@ import server
 from identity import F, FT, Files, OTHER, all_is_known, held_in, log_of, snap_of, total_of
 from log_bytes import PAGE, JoinFault, Log, LogFault, Setup, entry_of, joined, log, number_in, page_kind
 from log_check import LARGE, WIDE
+from refused import Refusing, build_library
 from server import WAIT, accepted, check, content
 from server_faults import STOP, STOPPING, asked, in_folder, write
 from server_log import CLOSED, FIVE, THREE, TWO, hhm, kill, put_of, run_each, without
@@ -393,6 +396,38 @@ def strange_paths():
     check("a hole", found, (line(FT, "Damaged at page 2 pages 1 whole 0 batches 0"), "", 0))
 
 
+def refused_once(files, kind, error, at, told):
+    """Salvages with this growth refused, or this read or write failing: what is wrong with that, and whether it was met.
+    """
+    refusing = Refusing(kind, error, at)
+    found = salvage(files, **refusing.how)
+    names = [name for name in files.names() if name not in ("snap", "log")]
+    for name in names:
+        os.remove(os.path.join(files.folder, name))
+    met = refusing.was_met()
+    faults = {"growth": r"hhm: memory\n", "fault": r"hhm: (snapshot: Read|log: Read at page \d+|file: (Write|Sync))\n"}
+    is_refused = re.fullmatch(faults[kind], found[1]) and found[0] == "" and names == []
+    # The last two calls are the sync of the folder and the write of the line: then the file may be there.
+    may_be = re.fullmatch(r"hhm: (file: Rename|output failed after 0 bytes)\n", found[1]) and kind == "fault"
+    is_right = is_refused or may_be or found == (told, "", 0) and names == ["out"]
+    return None if is_right and (met or found[2] == 0) else (found, names), met
+
+
+def calls_are_refused():
+    """Each growth, and each read and write, fails in turn: a fault and no file, or the whole."""
+    held = changed(WHOLE, 5, 30)
+    files = Files("salvage refused", BOTH, saved(ALL[:2], PAIRED, WIDER), held)
+    told = wanted(ALL[:2], held, PAIRED)[1]
+    build_library(in_folder(""))
+    for kind, error in (("growth", 0), ("fault", 5)):
+        for at in range(1, 5_000):
+            wrong, met = refused_once(files, kind, error, at, told)
+            check(f"{kind} {at}", wrong, None)
+            if not met:
+                break
+        check(f"{kind}: how many", at > 10, True)
+
+
 def all_are_tried():
     run_each(
         each_block_is_damaged,
@@ -406,6 +441,7 @@ def all_are_tried():
         what_a_start_refuses_is_helped,
         an_output_may_fail,
         strange_paths,
+        calls_are_refused,
     )
 
 
