@@ -3,13 +3,15 @@
 
     python3 tests/salvage.py PATH-TO-HHM
 
-The front of a log is wanted as its definition has it: of all logs that the first pages of the file are, the one with the
-most batches. They are read by the plainer reader of log_bytes.py, and the bytes of the new file are written by
-snap_bytes.py from docs/FORMATS.md, with the book that it says. It prints a line for each check that fails and at the end
-`N passed, M failed`; the status is 1 where one fails. Linux and Python's own library.
+The front of a log is wanted as its definition has it: of all logs that the first pages of the file are, the one with
+the most batches. They are read by the plainer reader of log_bytes.py, and the bytes of the new file are written by
+snap_bytes.py from docs/FORMATS.md, with the book that it says. It prints a line for each check that fails and at the
+end `N passed, M failed`; the status is 1 where one fails. Linux, Python's own library and the toolchain of
+Rattle.
 """
 import os
 import random
+import re
 import subprocess
 import sys
 
@@ -18,6 +20,7 @@ import server
 from identity import F, FT, Files, OTHER, all_is_known, held_in, log_of, snap_of, total_of
 from log_bytes import PAGE, JoinFault, Log, LogFault, Setup, entry_of, joined, log, number_in, page_kind
 from log_check import LARGE, WIDE
+from refused import Refusing, build_library
 from server import WAIT, accepted, check, content
 from server_faults import STOP, STOPPING, asked, in_folder, write
 from server_log import CLOSED, FIVE, THREE, TWO, hhm, kill, put_of, run_each, without
@@ -44,8 +47,8 @@ def fault_of(held):
 
 
 def front_of(held):
-    """Of the logs that the first pages of these bytes are the one with the most batches, the shortest of them; None where
-    there is none."""
+    """Of the logs that the first pages of these bytes are the one with the most batches, the shortest of them; None
+    where there is none."""
     best = None
     for end in range(PAGE, len(held) + PAGE, PAGE):
         try:
@@ -89,14 +92,14 @@ def wanted(known, held, origin=UNKNOWN):
 def saved(batches, origin, setup):
     """A snapshot of this setup in which nothing is folded."""
     return snapshot(
-        batches, total_of(batches), setup.rows, setup.cols, setup.cuts, setup.shards, setup.limit, setup.most, past=NONE,
-        origin=origin,
+        batches, total_of(batches), setup.rows, setup.cols, setup.cuts, setup.shards, setup.limit, setup.most,
+        past=NONE, origin=origin,
     )  # fmt: skip
 
 
 def is_salvaged(name, known, held, setup=log_bytes.SMALL, origin=PAIRED):
-    """Salvages a snapshot of these batches, if there is one, and a log: the outputs, the new file and the old ones. Returns
-    the files, the path of the new one and what it has."""
+    """Salvages a snapshot of these batches, if there is one, and a log: the outputs, the new file and the old ones.
+    Returns the files, the path of the new one and what it has."""
     snap = None if known is None else saved(known, origin, setup)
     files = Files(f"salvage {name}", BOTH, snap, held)
     before = files.all_bytes()
@@ -132,8 +135,11 @@ def is_taken(name, out, batches):
     check(f"{name}: its export", hhm("export", out)[0].partition("\n")[2].partition("\n")[2], lines)
 
 
-# Blocks of one page, of two batches, of five pages and of two, so that a page may be the first, the last or between.
-BLOCKS = [[FIVE], [THREE, TWO], [LARGE], [(6, n, [(0, n, 1)]) for n in range(7)], [(4, 1, [(1, col, 2) for col in range(9)])]]
+# Blocks of one page, with one batch, two and seven, and of five pages and two, so that a page may be the first, the last
+# or between.
+SEVEN = [(6, n, [(0, n, 1)]) for n in range(7)]
+WIDTH = (4, 1, [(row, col, 2) for row in range(6) for col in range(30)])
+BLOCKS = [[FIVE], [THREE, TWO], [LARGE], SEVEN, [WIDTH]]
 ALL = [batch for batches in BLOCKS for batch in batches]
 WHOLE = log(BLOCKS, setup=WIDER)
 
@@ -198,20 +204,22 @@ def a_gap_leaves_the_snapshot():
         is_salvaged(f"a gap before {name}", [], held)
         is_salvaged(f"no snapshot before {name}", None, held)
         is_salvaged(f"no gap before {name}", F, held)
-        is_salvaged(f"{name} of an unknown book", [], log_bytes.with_book(behind, 0) if name == "a whole log" else behind)
+    is_salvaged("a gap before a log of an unknown book", [], log_of(THREE, TWO, behind=F))
 
 
 # A name, the snapshot, the log, what is reported, and the status.
 REFUSED = [
     ("two books", snap_of(F, PAIRED), log_of(THREE, behind=F, origin=OTHER), "log: OtherBook", 3),
     ("two books and a gap", snap_of([], PAIRED), log_of(THREE, behind=F, origin=OTHER), "log: OtherBook", 3),
-    ("two windows", snap_of(F, Origin(BOOK, 5, 1)), log_of(THREE, behind=F, origin=Origin(BOOK, 6)), "log: OtherBook", 3),
+    ("two windows", snap_of(F, Origin(BOOK, 5, 1)), log_of(THREE, behind=F, origin=Origin(BOOK, 6)),
+     "log: OtherBook", 3),
     ("more rows", snap_of(F, PAIRED), log_of(THREE, behind=F, origin=OWNED, setup=Setup(rows=4)),
      "settings: LogDiffers", 2),
     ("more rows and a gap", snap_of([], PAIRED), log_of(THREE, behind=F, origin=OWNED, setup=Setup(rows=4)),
      "settings: LogDiffers", 2),
     ("another batch before", snap_of([THREE], PAIRED), log_of(TWO, behind=F, origin=OWNED), "log: LinkDiffers", 3),
-    ("another batch at its place", snap_of([THREE], PAIRED), log_of(FIVE, origin=OWNED), "log: EntryDiffers at batch 0", 3),
+    ("another batch at its place", snap_of([THREE], PAIRED), log_of(FIVE, origin=OWNED),
+     "log: EntryDiffers at batch 0", 3),
     ("a batch twice", snap_of(F, PAIRED), log_of(FIVE, behind=F, origin=OWNED), "log: NotFresh at batch 1", 3),
     ("a damaged snapshot", snap_of(F, PAIRED)[:-1], log_of(THREE, behind=F, origin=OWNED), "snapshot: Truncated", 3),
     ("a snapshot that is none", b"none" * 20, log_of(FIVE, origin=OWNED), "snapshot: BadMark", 3),
@@ -381,11 +389,46 @@ def strange_paths():
         make(path)
         found = hhm("salvage", os.path.join(files.folder, "no"), files.snap, "--log", path)
         check(name, found, ("", "hhm: log: OpenFailed\n", 4))
+    alone = Files("salvage of no snapshot", BOTH, None, changed(log_of(FIVE, THREE, TWO, origin=OWNED), 3, 30))
+    found = salvage(alone)
+    check("a snapshot that isn't there", found, (line(FT, "Damaged at page 3 pages 1 whole 0 batches 0"), "", 0))
     sparse = os.path.join(files.folder, "sparse")
     write(sparse, held)
     os.truncate(sparse, 2**39)
     found = hhm("salvage", os.path.join(files.folder, "out 2"), files.snap, "--log", sparse)
     check("a hole", found, (line(FT, "Damaged at page 2 pages 1 whole 0 batches 0"), "", 0))
+
+
+def refused_once(files, kind, error, at, told):
+    """Salvages with this growth refused, or this read or write failing: what is wrong with that, and whether it was met.
+    """
+    refusing = Refusing(kind, error, at)
+    found = salvage(files, **refusing.how)
+    names = [name for name in files.names() if name not in ("snap", "log")]
+    for name in names:
+        os.remove(os.path.join(files.folder, name))
+    met = refusing.was_met()
+    faults = {"growth": r"hhm: memory\n", "fault": r"hhm: (snapshot: Read|log: Read at page \d+|file: (Write|Sync))\n"}
+    is_refused = re.fullmatch(faults[kind], found[1]) and found[0] == "" and names == []
+    # The last two calls are the sync of the folder and the write of the line: then the file may be there.
+    may_be = re.fullmatch(r"hhm: (file: Rename|output failed after 0 bytes)\n", found[1]) and kind == "fault"
+    is_right = is_refused or may_be or found == (told, "", 0) and names == ["out"]
+    return None if is_right and (met or found[2] == 0) else (found, names), met
+
+
+def calls_are_refused():
+    """Each growth, and each read and write, fails in turn: a fault and no file, or the whole."""
+    held = changed(WHOLE, 5, 30)
+    files = Files("salvage refused", BOTH, saved(ALL[:2], PAIRED, WIDER), held)
+    told = wanted(ALL[:2], held, PAIRED)[1]
+    build_library(in_folder(""))
+    for kind, error in (("growth", 0), ("fault", 5)):
+        for at in range(1, 5_000):
+            wrong, met = refused_once(files, kind, error, at, told)
+            check(f"{kind} {at}", wrong, None)
+            if not met:
+                break
+        check(f"{kind}: how many", at > 10, True)
 
 
 def all_are_tried():
@@ -401,6 +444,7 @@ def all_are_tried():
         what_a_start_refuses_is_helped,
         an_output_may_fail,
         strange_paths,
+        calls_are_refused,
     )
 
 

@@ -7,8 +7,8 @@
 use Rattle.std.specs.Prelude.{ℕ, List, [], ◌∷◌, ◌++◌, codes, decimal}
 use Rattle.log_blocks.specs.declared.fault.LogKind.{LogKind}
 use Rattle.log_blocks.specs.declared.fault.LogKind.TheVariants as kind
-use Rattle.snap_salvage.specs.declared.front_end.FrontEnd.{FrontEnd}
-use Rattle.snap_salvage.specs.declared.front_end.FrontEnd.TheVariants as until
+use Rattle.snap_salvage.specs.declared.salvage_end.SalvageEnd.{SalvageEnd}
+use Rattle.snap_salvage.specs.declared.salvage_end.SalvageEnd.TheVariants as until
 use Rattle.snap_salvage.specs.declared.left.Left.{Left}
 
 abbrev pub kind_name : LogKind → List ℕ
@@ -28,13 +28,13 @@ left_text left =
     (codes " pages " ++ decimal left.pages) ++ (codes " whole " ++ decimal left.whole)
     ++ (codes " batches " ++ decimal left.batches)
 
-abbrev pub end_text : FrontEnd → Left → List ℕ
+abbrev pub end_text : SalvageEnd → Left → List ℕ
 end_text until.Whole left = codes "the end"
 end_text (until.Fault fault) left =
     kind_name fault.kind ++ (codes " at page " ++ decimal fault.page) ++ left_text left
 end_text (until.Gap first) left = (codes "Gap at batch " ++ decimal first) ++ left_text left
 
-abbrev pub salvage_line : ℕ → ℕ → FrontEnd → Left → List ℕ
+abbrev pub salvage_line : ℕ → ℕ → SalvageEnd → Left → List ℕ
 salvage_line batches total end left =
     (codes "salvaged " ++ decimal batches) ++ (codes " total " ++ decimal total) ++ codes " until " ++
     end_text end left ++ 10 ∷ []

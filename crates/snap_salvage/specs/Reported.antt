@@ -45,7 +45,7 @@ use Rattle.snap_salvage.specs.Lines.{salvage_line}
 use Rattle.snap_salvage.specs.Salvages.{HasSalvaged, IsGap, IsSalvaged, salvage_origin}
 use Rattle.snap_salvage.specs.declared.front.Front.{Front}
 use Rattle.snap_salvage.specs.declared.front.Front.TheVariants.{Whole, Before, Headless}
-use Rattle.snap_salvage.specs.declared.front_end.FrontEnd.{FrontEnd}
+use Rattle.snap_salvage.specs.declared.salvage_end.SalvageEnd.{SalvageEnd}
 use Rattle.snap_salvage.specs.declared.left.Left.{Left}
 
 pub record IsSnapshotUnread {F : Type 0} (loads : F → ℕ → Result Saved FileFault → F → Type 0) (s t : F)
@@ -114,7 +114,7 @@ pub record IsCountReported {F L : Type 0} (loads : F → ℕ → Result Saved Fi
   pub found : Option Saved
   pub front : Front
   pub x : Saved
-  pub end : FrontEnd
+  pub end : SalvageEnd
   pub from : ℕ
   pub between : L
   pub loaded : HasFound loads s t found
@@ -147,7 +147,7 @@ pub record IsMadeReported {F L N W : Type 0} (loads : F → ℕ → Result Saved
     (takes : W → List ℕ → Answer → W → Type 0) (failures : W → ℕ) (s t : F) (u v : L) (a b : N) (p q : W)
     (book : Identity) (fault : MakeFault) : Type 0 where
   pub x : Saved
-  pub end : FrontEnd
+  pub end : SalvageEnd
   pub left : Left
   pub salvaged : HasSalvaged loads reads fronts lefts s t u v x end left
   pub reported : IsMakeReported makes takes failures a b p q (salvage_origin book x.origin) x.setup (accepted_in x.list)

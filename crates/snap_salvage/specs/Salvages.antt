@@ -24,8 +24,8 @@ use Rattle.snap_report.specs.declared.kept_log.LogFileFault.{LogFileFault}
 use Rattle.snap_salvage.specs.Found.{HasFront}
 use Rattle.snap_salvage.specs.declared.front.Front.{Front}
 use Rattle.snap_salvage.specs.declared.front.Front.TheVariants.{Whole, Before, Headless}
-use Rattle.snap_salvage.specs.declared.front_end.FrontEnd.{FrontEnd}
-use Rattle.snap_salvage.specs.declared.front_end.FrontEnd.TheVariants as until
+use Rattle.snap_salvage.specs.declared.salvage_end.SalvageEnd.{SalvageEnd}
+use Rattle.snap_salvage.specs.declared.salvage_end.SalvageEnd.TheVariants as until
 use Rattle.snap_salvage.specs.declared.left.Left.{Left}
 
 pub record IsGap (found : Option Saved) (file : LogFile) (x : Saved) : Type 0 where
@@ -34,27 +34,27 @@ pub record IsGap (found : Option Saved) (file : LogFile) (x : Saved) : Type 0 wh
   pub gap : HasGap x.setup (known_entries x.list) file.head file.head.first
 
 -- what a snapshot and a log have together, which ends so unless there is a gap
-pub record IsJoined (found : Option Saved) (file : LogFile) (why : FrontEnd) (x : Saved) (end : FrontEnd) (from : ℕ) :
+pub record IsJoined (found : Option Saved) (file : LogFile) (why : SalvageEnd) (x : Saved) (end : SalvageEnd) (from : ℕ) :
     Type 0 where
   pub join : IsJoinOf found file x
   pub end_is : end ≡ why
   pub from_is : from ≡ 1 + pages_in file.blocks.items
 
-pub record IsBeforeGap (found : Option Saved) (file : LogFile) (x : Saved) (end : FrontEnd) (from : ℕ) : Type 0 where
+pub record IsBeforeGap (found : Option Saved) (file : LogFile) (x : Saved) (end : SalvageEnd) (from : ℕ) : Type 0 where
   pub gap : IsGap found file x
   pub end_is : end ≡ until.Gap file.head.first
   pub from_is : from ≡ 1
 
-abbrev pub IsOfBoth : Option Saved → LogFile → FrontEnd → Saved → FrontEnd → ℕ → Type 0
+abbrev pub IsOfBoth : Option Saved → LogFile → SalvageEnd → Saved → SalvageEnd → ℕ → Type 0
 IsOfBoth found file why x end from = IsJoined found file why x end from ⊎ IsBeforeGap found file x end from
 
-abbrev pub IsSalvaged : Option Saved → Front → Saved → FrontEnd → ℕ → Type 0
+abbrev pub IsSalvaged : Option Saved → Front → Saved → SalvageEnd → ℕ → Type 0
 IsSalvaged found (Whole file) x end from = IsOfBoth found file until.Whole x end from
 IsSalvaged found (Before file fault) x end from = IsOfBoth found file (until.Fault fault) x end from
 IsSalvaged found (Headless fault) x end from =
     (found ≡ Some x) × (end ≡ until.Fault fault) × (from ≡ 1)
 
-abbrev pub HasCounted : {L : Type 0} → (L → ℕ → Result Left LogFileFault → L → Type 0) → L → L → FrontEnd → ℕ →
+abbrev pub HasCounted : {L : Type 0} → (L → ℕ → Result Left LogFileFault → L → Type 0) → L → L → SalvageEnd → ℕ →
     Left → Type 0
 HasCounted lefts u v until.Whole from left = v ≡ u
 HasCounted lefts u v (until.Fault fault) from left = lefts u from (Ok left) v
@@ -63,7 +63,7 @@ HasCounted lefts u v (until.Gap first) from left = lefts u from (Ok left) v
 -- What was read of both files, what both have, where that ends, and what is left out.
 pub record HasSalvaged {F L : Type 0} (loads : F → ℕ → Result Saved FileFault → F → Type 0)
     (reads fronts : L → ℕ → Result LogFile LogFileFault → L → Type 0)
-    (lefts : L → ℕ → Result Left LogFileFault → L → Type 0) (s t : F) (u v : L) (x : Saved) (end : FrontEnd)
+    (lefts : L → ℕ → Result Left LogFileFault → L → Type 0) (s t : F) (u v : L) (x : Saved) (end : SalvageEnd)
     (left : Left) : Type 0 where
   pub found : Option Saved
   pub front : Front

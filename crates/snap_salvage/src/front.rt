@@ -1,5 +1,5 @@
 //! Finds the front of a log.
-ghost use Rattle.std.specs.Prelude.{◌≡◌, ◌≤◌, ◌+◌, true, IfOk, IfErr};
+ghost use Rattle.std.specs.Prelude.{◌≡◌, true, IfOk, IfErr};
 ghost use Rattle.snap_salvage.specs.Found.{HasFault, HasFront, IsFrontRead, IsWrong};
 ghost use Rattle.snap_salvage.specs.Reported.{IsFrontUnread};
 ghost use Rattle.snap_salvage.specs.declared.front.Front.{Front};

@@ -9,12 +9,12 @@ ghost use Rattle.snap_file.specs.Origins.{IsOtherBook};
 ghost use Rattle.snap_report.specs.Kept.{most_bytes};
 ghost use Rattle.snap_report.specs.Logged.{IsRead, IsUnjoined};
 ghost use Rattle.snap_salvage.specs.Found.{IsFrontRead};
-ghost use Rattle.snap_salvage.specs.Salvages.{IsGap, IsOfBoth, IsSalvaged};
+ghost use Rattle.snap_salvage.specs.Salvages.{IsOfBoth, IsSalvaged};
 ghost use Rattle.snap_salvage.specs.Reported.{IsApart, IsUnsalvaged};
-ghost use Rattle.snap_salvage.specs.declared.front_end.FrontEnd.{FrontEnd};
+ghost use Rattle.snap_salvage.specs.declared.salvage_end.SalvageEnd.{SalvageEnd};
 
 use crate::front::Front;
-use crate::front_end::FrontEnd;
+use crate::salvage_end::SalvageEnd;
 use batch_store::{BookList, Setup};
 use log_batches::block_pages;
 use log_blocks::LogFault;
@@ -28,7 +28,7 @@ use std::alloc::Global;
 #[derive(Drop)]
 pub(crate) struct Salvage {
     pub snapshot: Snapshot,
-    pub end: FrontEnd,
+    pub end: SalvageEnd,
     pub from: u64,
 }
 
@@ -85,7 +85,7 @@ fn join_pages(
     alloc: Global,
     found: Option<Snapshot>,
     logged: &LogFile,
-    why: FrontEnd,
+    why: SalvageEnd,
 ) -> Result<Salvage, CheckFault>
     requires { IsRead most_bytes logged.now }
     ensures both { IfOk result (λ s. IsOfBoth found logged.now why s.snapshot s.end s.from) }
@@ -105,7 +105,7 @@ fn join_log(
     alloc: Global,
     found: Option<Snapshot>,
     logged: &LogFile,
-    why: FrontEnd,
+    why: SalvageEnd,
 ) -> Result<Salvage, CheckFault>
     requires { IsRead most_bytes logged.now }
     ensures both { IfOk result (λ s. IsOfBoth found logged.now why s.snapshot s.end s.from) }
@@ -117,7 +117,7 @@ fn join_log(
             if is_after(&snapshot, &logged.head) {
                 return Ok(Salvage {
                     snapshot,
-                    end: FrontEnd::Gap(logged.head.first),
+                    end: SalvageEnd::Gap(logged.head.first),
                     from: 1,
                 });
             }
@@ -136,7 +136,7 @@ fn alone(found: Option<Snapshot>, fault: LogFault) -> Result<Salvage, CheckFault
     match found {
         Some(snapshot) => Ok(Salvage {
             snapshot,
-            end: FrontEnd::Fault(fault),
+            end: SalvageEnd::Fault(fault),
             from: 1,
         }),
         None => Err(CheckFault::from(LogFileFault::Log(fault))),
@@ -160,8 +160,8 @@ pub(crate) fn join_front(
     ensures few { IfOk result (λ s. s.from < 2 ^ 50) }
 {
     match front {
-        Front::Whole(logged) => join_log(alloc, found, logged, FrontEnd::Whole),
-        Front::Before(logged, fault) => join_log(alloc, found, logged, FrontEnd::Fault(*fault)),
+        Front::Whole(logged) => join_log(alloc, found, logged, SalvageEnd::Whole),
+        Front::Before(logged, fault) => join_log(alloc, found, logged, SalvageEnd::Fault(*fault)),
         Front::Headless(fault) => alone(found, *fault),
     }
 }

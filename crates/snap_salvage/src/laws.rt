@@ -1,5 +1,5 @@
 //! Laws of the front of a log.
-ghost use Rattle.std.specs.Prelude.{◌≡◌, ℕ, ◌*◌, ◌<◌, ◌≤◌, ◌^◌, List, length, take};
+ghost use Rattle.std.specs.Prelude.{ℕ, ◌*◌, ◌<◌, ◌≤◌, ◌^◌, List, length, take};
 ghost use Rattle.log_page.specs.Pages.{IsBytes};
 ghost use Rattle.log_blocks.specs.declared.fault.LogFault.{LogFault};
 ghost use Rattle.log_read.specs.Logs.{HoldsLog};

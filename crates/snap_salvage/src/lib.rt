@@ -7,20 +7,20 @@
 
 mod count;
 mod front;
-mod front_end;
 mod joining;
 mod laws;
 mod left;
 mod line;
 mod no_snapshot;
 mod salvage;
+mod salvage_end;
 mod torn_log;
 
 pub use count::count_pages;
 pub use front::Front;
-pub use front_end::FrontEnd;
 pub use laws::{fronts_end_at_faults, pages_before_faults_have_none, whole_logs_are_fronts};
 pub use left::Left;
 pub use no_snapshot::NoSnapshot;
 pub use salvage::run_salvage;
+pub use salvage_end::SalvageEnd;
 pub use torn_log::{NamedTornLog, TornLog};

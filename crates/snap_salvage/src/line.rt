@@ -3,8 +3,8 @@ ghost use Rattle.std.specs.Prelude.{◌≡◌, ◌+◌, ◌≤◌, ◌++◌, len
 ghost use Rattle.arrayvec.specs.ArrayString.{array_string_len};
 ghost use Rattle.snap_salvage.specs.Lines.{end_text, kind_name, left_text, salvage_line};
 
-use crate::front_end::FrontEnd;
 use crate::left::Left;
+use crate::salvage_end::SalvageEnd;
 use arrayvec::ArrayString;
 use log_blocks::LogKind;
 
@@ -53,19 +53,19 @@ fn push_left(line: &mut ArrayString<LINE_CAPACITY>, left: &Left)
 }
 
 // Appends what ends the batches.
-fn push_end(line: &mut ArrayString<LINE_CAPACITY>, end: FrontEnd, left: &Left)
+fn push_end(line: &mut ArrayString<LINE_CAPACITY>, end: SalvageEnd, left: &Left)
     requires room { array_string_len line.old ≤ 80 }
     ensures bytes { line.new.bytes ≡ line.old.bytes ++ end_text end left.now }
     ensures short { array_string_len line.new ≤ 260 }
 {
     match end {
-        FrontEnd::Whole => line.push_str("the end"),
-        FrontEnd::Fault(fault) => {
+        SalvageEnd::Whole => line.push_str("the end"),
+        SalvageEnd::Fault(fault) => {
             line.push_str(name_of(fault.kind));
             push_number(line, " at page ", fault.page);
             push_left(line, left);
         }
-        FrontEnd::Gap(first) => {
+        SalvageEnd::Gap(first) => {
             push_number(line, "Gap at batch ", first);
             push_left(line, left);
         }
@@ -76,7 +76,7 @@ fn push_end(line: &mut ArrayString<LINE_CAPACITY>, end: FrontEnd, left: &Left)
 pub(crate) fn line_of(
     batches: u64,
     total: u64,
-    end: FrontEnd,
+    end: SalvageEnd,
     left: &Left,
 ) -> ArrayString<LINE_CAPACITY>
     ensures { result.bytes ≡ salvage_line batches total end left.now }

@@ -1,23 +1,23 @@
 //! `salvage`: makes a new snapshot of what a snapshot and the front of a log have.
-ghost use Rattle.std.specs.Prelude.{◌≡◌, ◌≢◌, ◌⊎◌, ◌+◌, ◌<◌, ◌^◌, IfOk, OnOk, IfErr};
+ghost use Rattle.std.specs.Prelude.{◌≡◌, ◌⊎◌, ◌+◌, ◌<◌, ◌^◌, IfOk, OnOk, IfErr};
 ghost use Rattle.byte_io.specs.Writing.{HasStopped, HasTaken};
 ghost use Rattle.byte_io.specs.declared.fault.WriteFault.{WriteFault};
 ghost use Rattle.batch_store.specs.Accepted.{count_in, total_in};
 ghost use Rattle.batch_store.specs.Books.{AreAccepted, accepted_in};
-ghost use Rattle.snap_file.specs.Snapshots.{HasBase, Saved};
+ghost use Rattle.snap_file.specs.Snapshots.{Saved};
 ghost use Rattle.snap_report.specs.Logged.{HasFound};
 ghost use Rattle.snap_report.specs.Made.{IsMade};
 ghost use Rattle.snap_salvage.specs.Lines.{salvage_line};
 ghost use Rattle.snap_salvage.specs.Salvages.{HasCounted, HasSalvaged, salvage_origin};
 ghost use Rattle.snap_salvage.specs.Reported.{IsMadeReported, IsMakeReported, IsSnapshotUnread, IsUncounted, IsUnmade};
-ghost use Rattle.snap_salvage.specs.declared.front_end.FrontEnd.{FrontEnd};
+ghost use Rattle.snap_salvage.specs.declared.salvage_end.SalvageEnd.{SalvageEnd};
 ghost use Rattle.snap_salvage.specs.declared.left.Left.{Left};
 
 use crate::front::find_front;
-use crate::front_end::FrontEnd;
 use crate::joining::{Salvage, join_front};
 use crate::left::Left;
 use crate::line::line_of;
+use crate::salvage_end::SalvageEnd;
 use crate::torn_log::TornLog;
 use batch_store::{BookList, Setup};
 use byte_io::{Sink, write_all};
@@ -41,7 +41,7 @@ fn load_if_any<F: SnapshotFile>(alloc: Global, file: &mut F) -> Result<Option<Sn
 fn count_left<L: TornLog>(
     alloc: Global,
     log: &mut L,
-    end: FrontEnd,
+    end: SalvageEnd,
     from: u64,
 ) -> Result<Left, CheckFault>
     requires { from < 2 ^ 50 }
@@ -49,8 +49,8 @@ fn count_left<L: TornLog>(
     ensures err { IfErr result (IsUncounted L.left_gives log.old log.new from) }
 {
     match end {
-        FrontEnd::Whole => Ok(Left::none()),
-        FrontEnd::Fault(_) | FrontEnd::Gap(_) => {
+        SalvageEnd::Whole => Ok(Left::none()),
+        SalvageEnd::Fault(_) | SalvageEnd::Gap(_) => {
             let left = log.count_left(alloc, from)?;
             Ok(left)
         }
@@ -91,7 +91,7 @@ fn write_salvaged<W: Sink>(
     w: &mut W,
     setup: &Setup,
     list: &BookList,
-    end: FrontEnd,
+    end: SalvageEnd,
     left: &Left,
 ) -> Result<(), MakeFault>
     requires failures { W.failure_count w.old + 1 < 2 ^ 64 }
@@ -148,10 +148,10 @@ fn make_salvaged<N: NewSnapshot, W: Sink>(
 /// Reads the snapshot in a file, if one is there, and then the front of a log; makes a new snapshot in a new file of
 /// what both have, as a start joins them, and writes the line `salvaged B total T until END`.
 ///
-/// B is how many batches the new one has, and T their total. END is `the end` where nothing is wrong with the log. Else it
-/// is the fault that ends the front, as a start reports it, or `Gap at batch F` where the log begins after the end of the
-/// snapshot, which is all that is salvaged then; and `pages Q whole W batches N` follows: how many pages that aren't empty
-/// the log has after what is salvaged, how many of them are whole, and how many batches these claim.
+/// B is how many batches the new one has, and T their total. END is `the end` where nothing is wrong with the log. Else
+/// it is the fault that ends the front, as a start reports it, or `Gap at batch F` where the log begins after the end of
+/// the snapshot, which is all that is salvaged then. After that comes `pages Q whole W batches N`: how many pages that
+/// aren't empty the log has after what is salvaged, how many of them are whole, and how many batches these claim.
 ///
 /// The new one is of another book, but where the files say a window, and no log goes with it. Nothing of the files that
 /// are read is changed. The log is read up to three times: hold its lock.
@@ -160,9 +160,9 @@ fn make_salvaged<N: NewSnapshot, W: Sink>(
 ///
 /// # Errors
 ///
-/// `Read` where the snapshot or the log can't be read, where the two don't belong together, or where there is no snapshot
-/// and the log has no head or doesn't begin with the first batch; `Save` where the new file couldn't be made; and
-/// `Output` where the line couldn't be written whole: the file is made then.
+/// `Read` where the snapshot or the log can't be read, where the two don't belong together, or where there is no
+/// snapshot and the log has no head or doesn't begin with the first batch; `Save` where the new file couldn't be made;
+/// and `Output` where the line couldn't be written whole: the file is made then.
 pub fn run_salvage<F: SnapshotFile, L: TornLog, N: NewSnapshot, W: Sink>(
     alloc: Global,
     file: &mut F,
@@ -172,9 +172,9 @@ pub fn run_salvage<F: SnapshotFile, L: TornLog, N: NewSnapshot, W: Sink>(
     w: &mut W,
 ) -> Result<(), MakeFault>
     requires { W.failure_count w.old + 1 < 2 ^ 64 }
-    // What was made is what the load of the snapshot's file and the front of the log have together, and the line says what
-    // ends it, and what the count has answered.
-    ensures made { OnOk result ((x : Saved) × ((end : FrontEnd) × ((left : Left)
+    // What was made is what the load of the snapshot's file and the front of the log have together, and the line says
+    // what ends it, and what the count has answered.
+    ensures made { OnOk result ((x : Saved) × ((end : SalvageEnd) × ((left : Left)
         × HasSalvaged F.load_gives L.read_gives L.front_gives L.left_gives file.old file.new log.old log.new x end left
         × IsMade N.make_gives new.old new.new (salvage_origin book x.origin) x.setup (accepted_in x.list)
         × HasTaken W.write_takes W.failure_count w.old w.new

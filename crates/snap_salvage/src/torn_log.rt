@@ -1,5 +1,5 @@
 //! The file of a log that a start may refuse, as one who looks for its front sees it.
-ghost use Rattle.std.specs.Prelude.{◌≡◌, ℕ, Result, IfOk, ⊤, ◌+◌, ◌*◌, ◌<◌, ◌≤◌, ◌^◌};
+ghost use Rattle.std.specs.Prelude.{ℕ, Result, IfOk, ⊤, ◌+◌, ◌*◌, ◌<◌, ◌≤◌, ◌^◌};
 ghost use Rattle.log_read.specs.declared.file.LogFile.{LogFile};
 ghost use Rattle.snap_report.specs.Logged.{IsRead};
 ghost use Rattle.snap_report.specs.declared.kept_log.LogFileFault.{LogFileFault};

@@ -4,7 +4,7 @@ use log_blocks::LogFault;
 
 /// What ends the batches that are salvaged.
 #[derive(Clone, Copy, Debug, PartialEq, Eq)]
-pub enum FrontEnd {
+pub enum SalvageEnd {
     /// The end of the log: nothing is wrong with it.
     Whole,
     /// A page of the log with this fault.
