@@ -86,7 +86,8 @@ def a_long_log_is_begun_anew():
                 stats = client.stats()
                 saved = stats["saved_batches"]
                 check(f"{name}: what was saved", (stats["saves_total"], 50 <= saved <= 80), (1, True))
-                check(f"{name}: it is short", stats["log_pages"], 81 - saved)
+                # (what came during the save may share a page)
+                check(f"{name}: it is short", 1 <= stats["log_pages"] <= 81 - saved, True)
                 check(f"{name}: what is folded", 50 <= stats["folded"] <= saved if folds else stats["folded"] == 0, True)
                 put_some(client, 81, 5)
             check(f"{name}: both files", place.checked(), (85, 85))
