@@ -172,7 +172,7 @@ pub fn run_apart<
     let server = move || -> Result<Status, ServerFault>
         requires { W.failure_count out + 1 < 2 ^ 64 }
     {
-        let mut out = out;
+        let (rt, order, noted, mut out) = (rt, order, noted, out);
         let outcome = run_told(&rt, alloc, order, &mut out);
         noted.end(&rt);
         outcome
