@@ -14,3 +14,4 @@ pub mod ListLaws
 pub mod VerdictMeaning
 pub mod BatchPartLaws
 pub mod GrowthLaws
+pub mod PieceLaws

@@ -33,6 +33,7 @@ mod line;
 mod listed;
 mod misfit;
 mod pair;
+mod pieces;
 mod part;
 mod setup;
 mod shard;
@@ -61,6 +62,7 @@ pub use laws::{
 pub use layer_cascade::Compaction;
 pub use limits::{MAX_BATCHES, MAX_CELLS, MAX_SHARDS};
 pub use misfit::{Misfit, Number};
+pub use pieces::Pieces;
 pub use setup::Setup;
 pub use shard::{Prepared, ReleasedRecord, Shard};
 pub use verdict::{Entry, Kept, Verdict};
