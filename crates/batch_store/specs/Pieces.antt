@@ -3,10 +3,9 @@
 --     whole_of r c list   what matrices of these dimensions add up to
 --     ArePieces r c list  the list has the parts of that whole in as many shards as it is long, in order
 --     AreOwn k i list     each of these matrices lies in its shard of k, the first one in shard i, and has these dimensions
---     KeepsPieces         what pieces keep: that, how many entries they have together, and that their total fits 64 bits
+--     KeepsPieces         what pieces keep: that, and that their total fits 64 bits
 use Rattle.std.specs.Prelude.{◌≡◌, ℕ, ◌+◌, ◌<◌, ◌≤◌, ◌^◌, List, [], ◌∷◌, length, refl}
 use Rattle.std.specs.Coded.{Coded, code_by, coded×, coded_ℕ}
-use Rattle.std.specs.FinMap.{len}
 use Rattle.cells.specs.Bounds.{IsDimension}
 use Rattle.hyper_matrix.specs.Counts.{part, total}
 use Rattle.hyper_matrix.specs.Matrix.{Matrix, coded_matrix, matrix}
@@ -33,11 +32,10 @@ abbrev pub AreOwn : ℕ → ℕ → ℕ → ℕ → List Matrix → Type 0
 AreOwn r c k i [] = Unit {0}
 AreOwn r c k i (m ∷ ms) = (m.rows ≡ r) × (m.cols ≡ c) × (part m.counts i k ≡ m.counts) × AreOwn r c k (i + 1) ms
 
-pub record KeepsPieces (r c entries : ℕ) (list : List Matrix) : Type 0 where
+pub record KeepsPieces (r c : ℕ) (list : List Matrix) : Type 0 where
   pub rows : IsDimension r
   pub cols : IsDimension c
   pub some : 0 < length list
   pub few : length list ≤ 64
   pub pieces : ArePieces r c list
-  pub count : entries ≡ len (whole_of r c list).counts
   pub fits : total (whole_of r c list).counts < 2 ^ 64

