@@ -6,6 +6,7 @@ ghost use Rattle.std.specs.Prelude.{◌≡◌, IfOk, IfSome};
 ghost use Rattle.std.specs.Arc.{arc_value};
 ghost use Rattle.layer_compaction.specs.Due.{numbers_of};
 
+use crate::pieces::Pieces;
 use boxcar::slot::{OnceSlot, SlotRule};
 use boxcar::tag::{Names, Tag};
 use hyper_matrix::Hyper;
@@ -48,12 +49,12 @@ impl MadeBase {
 /// What is put into a slot is the matrix that the slot's tag has the numbers of.
 pub struct SameBase;
 
-impl SlotRule<Arc<Hyper>> for SameBase {
+impl SlotRule<Arc<Pieces>> for SameBase {
     ghost use Rattle.std.specs.Prelude.{◌≡◌};
     ghost use Rattle.std.specs.Arc.{arc_value};
     ghost use Rattle.layer_compaction.specs.Due.{numbers_of};
 
-    ghost holds = { λ tag base. numbers_of (arc_value base) ≡ tag };
+    ghost holds = { λ tag base. numbers_of (arc_value base).whole ≡ tag };
 }
 
 impl SlotRule<MadeBase> for SameBase {
@@ -68,7 +69,7 @@ impl SlotRule<MadeBase> for SameBase {
 /// A place for the book's base, which is filled once. Contracts see the base's numbers.
 #[derive(Drop)]
 pub struct BasePlace {
-    base: OnceSlot<Arc<Hyper>, SameBase>,
+    base: OnceSlot<Arc<Pieces>, SameBase>,
 }
 
 impl Model for BasePlace {
@@ -89,15 +90,15 @@ impl BasePlace {
     }
 
     /// The base, if it was made. It waits for nobody.
-    pub(crate) fn base(&self) -> Option<&Arc<Hyper>>
-        ensures { IfSome result (λ base. numbers_of (arc_value base.now) ≡ self.now) }
+    pub(crate) fn base(&self) -> Option<&Arc<Pieces>>
+        ensures { IfSome result (λ base. numbers_of (arc_value base.now).whole ≡ self.now) }
     {
         self.base.get()
     }
 
     /// Puts the base here, unless another has. It waits for nobody.
-    pub(crate) fn fill(&self, base: Arc<Hyper>)
-        requires { numbers_of (arc_value base) ≡ self.now }
+    pub(crate) fn fill(&self, base: Arc<Pieces>)
+        requires { numbers_of (arc_value base).whole ≡ self.now }
     {
         let _ = self.base.set(base);
     }

@@ -2,10 +2,11 @@
 ghost use Rattle.std.specs.Prelude.{◌≡◌, ◌<◌, ◌≤◌, ◌^◌, IfOk, length};
 ghost use Rattle.std.specs.Arc.{arc_value};
 ghost use Rattle.cells.specs.Bounds.{IsDimension};
-ghost use Rattle.hyper_matrix.specs.Counts.{total};
+ghost use Rattle.hyper_matrix.specs.Counts.{Counts, total};
+ghost use Rattle.hyper_matrix.specs.Matrix.{matrix};
 ghost use Rattle.hyper_matrix.specs.Parts.{parts_below, shard_part};
 ghost use Rattle.layer_compaction.specs.Shared.{values};
-ghost use Rattle.batch_store.specs.Pieces.{AreOwn, cut_in, whole_of};
+ghost use Rattle.batch_store.specs.Pieces.{ArePartsOf, cut_in};
 
 use hyper_matrix::Hyper;
 use std::alloc::{AllocError, Global};
@@ -58,15 +59,15 @@ fn entries_of(list: &[Arc<Hyper>]) -> u64 {
 }
 
 impl Pieces {
-    /// The pieces of a matrix that were made apart: each lies in its own shard of as many shards as they are.
-    pub fn new(rows: u64, cols: u64, list: Vec<Arc<Hyper>>) -> Pieces
+    /// The pieces of a matrix, each made apart.
+    pub fn of(rows: u64, cols: u64, list: Vec<Arc<Hyper>>) -> Pieces
         requires rows { IsDimension rows }
         requires cols { IsDimension cols }
         requires some { 0 < length (values list.items) }
         requires few { length (values list.items) ≤ 64 }
-        requires own { AreOwn rows cols (length (values list.items)) 0 (values list.items) }
-        requires fits { total (whole_of rows cols (values list.items)).counts < 2 ^ 64 }
-        ensures { result ≡ cut_in (length (values list.items)) (whole_of rows cols (values list.items)) }
+        requires parts { (m : Counts) × (total m < 2 ^ 64) × ArePartsOf (matrix rows cols m) (values list.items) }
+        ensures { (m : Counts) → ArePartsOf (matrix rows cols m) (values list.items) →
+            result ≡ cut_in (length (values list.items)) (matrix rows cols m) }
     {
         let entries = entries_of(&list);
         Pieces {
@@ -114,6 +115,34 @@ impl Pieces {
     pub fn entries(&self) -> u64
     {
         self.entries
+    }
+
+    /// The whole as one matrix: the only piece, or the sum of several, which takes a pass over what was added before for
+    /// each.
+    ///
+    /// # Errors
+    ///
+    /// A growth was refused.
+    pub fn sum(&self, alloc: Global) -> Result<Hyper, AllocError>
+        ensures { IfOk result (λ m. m ≡ self.now.whole) }
+    {
+        let mut sum = self.list[0].copy(alloc)?;
+        'pieces: for s in 1..self.list.len() {
+            let piece = self.list[s].copy(alloc)?;
+            sum = sum.into_sum(alloc, piece)?;
+        }
+        Ok(sum)
+    }
+
+    /// The sum of all counts.
+    pub fn total(&self) -> u64
+        ensures { result ≡ total self.now.whole.counts }
+    {
+        let mut all = 0;
+        'pieces: for piece in &self.list {
+            all += piece.total();
+        }
+        all
     }
 
     /// Piece `s`.
