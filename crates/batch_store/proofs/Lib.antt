@@ -15,3 +15,4 @@ pub mod VerdictMeaning
 pub mod BatchPartLaws
 pub mod GrowthLaws
 pub mod PieceLaws
+pub mod WalkLaws

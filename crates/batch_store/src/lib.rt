@@ -33,6 +33,7 @@ mod line;
 mod listed;
 mod misfit;
 mod pair;
+mod piece_cells;
 mod pieces;
 mod part;
 mod setup;

@@ -1,0 +1,43 @@
+//! The cells of all pieces of a matrix, by row and then by column.
+ghost use Rattle.std.specs.Prelude.{◌≡◌, ◌%◌, ◌<◌, ◌∷◌, [], ℕ, List, None, Some, T, length, true, false};
+ghost use Rattle.cells.specs.declared.cell.Cell.{Cell};
+ghost use Rattle.hyper_matrix.specs.Cells.{place_of};
+ghost use Rattle.hyper_matrix.specs.Search.{is_before};
+ghost use Rattle.std.specs.FinMap.{is_sorted};
+ghost use Rattle.hyper_matrix.specs.Counts.{Place, place_cmp};
+ghost use Rattle.batch_store.specs.Walks.{AreParts, entries_left};
+
+use cells::Cell;
+use hyper_matrix::is_before;
+
+// Whether the next cell of one piece comes before that of another; so it does where the other has none.
+fn is_next(cells: &[Cell], others: &[Cell]) -> bool
+    ensures none { cells.now ≡ [] → result ≡ false }
+    ensures last { (c : Cell) (cs : List Cell) → cells.now ≡ c ∷ cs → others.now ≡ [] → result ≡ true }
+    ensures both { (c o : Cell) (cs os : List Cell) → cells.now ≡ c ∷ cs → others.now ≡ o ∷ os →
+        result ≡ is_before (place_of c) (place_of o) }
+{
+    match (cells.first(), others.first()) {
+        (None, _) => false,
+        (Some(_), None) => true,
+        (Some(cell), Some(other)) => is_before((cell.row, cell.col), (other.row, other.col)),
+    }
+}
+
+// The piece whose next cell comes before those of all others; None where no cell is left.
+fn first_piece(left: &[&[Cell]]) -> Option<usize>
+    requires { 0 < length left.now }
+    ensures none { AreParts 0 (length left.now) (entries_left left.now) [] → result ≡ None }
+    ensures some { (e : Place × ℕ) (es : List (Place × ℕ)) → T (is_sorted place_cmp (e ∷ es)) →
+        AreParts 0 (length left.now) (entries_left left.now) (e ∷ es) → result ≡ Some (e.0.0 % length left.now) }
+{
+    let mut first: &[Cell] = &[];
+    let mut found = None;
+    'pieces: for (piece, cells) in left.iter().enumerate() {
+        if is_next(cells, first) {
+            first = cells;
+            found = Some(piece);
+        }
+    }
+    found
+}
