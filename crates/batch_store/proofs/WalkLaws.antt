@@ -1,8 +1,8 @@
 -- The next cell among those of all pieces of a matrix.
-use Rattle.std.proofs.Common.{◌≡◌, ℕ, zero, suc, ◌+◌, ◌<◌, ◌≤◌, ◌%◌, Bool, true, false, cond, T, ◌&&◌, List, [], ◌∷◌, length, get_or}
-use Rattle.std.proofs.Common.{Option, None, Some, map, refl, sym, ◌∙◌, ap, subst, arith, inl, inr, Bor}
+use Rattle.std.proofs.Common.{◌≡◌, ℕ, zero, suc, ◌+◌, ◌<◌, ◌≤◌, ◌%◌, Bool, true, false, cond, T, ◌&&◌, List, [], ◌∷◌, length, get_or, set}
+use Rattle.std.proofs.Common.{Option, None, Some, IfSome, map, refl, sym, ◌∙◌, ap, subst, arith, inl, inr, Bor}
 use Rattle.std.proofs.lemmas.Bool.{cases_order, eq-eqb, ne_eqb, false≢true}
-use Rattle.std.proofs.lemmas.List.{get_or-map, length-map}
+use Rattle.std.proofs.lemmas.List.{get_or-map, length-map, map-set}
 use Rattle.std.specs.FinMap.{is_sorted}
 use Rattle.std.specs.FinMap.Entries.{below_all}
 use Rattle.cells.specs.declared.cell.Cell.{Cell}
@@ -117,6 +117,7 @@ module _ (k p : ℕ) (ls : List (List (Place × ℕ))) (found now : Option ℕ) 
 
   pub leads_next : Leads k (p + 1) ls now next
   leads_next = record {
+    within = by r refl;
     none = λ parts.
         let t = kept (none (nothing cells (here [] parts))) in
         let was = h.none parts in
@@ -130,6 +131,14 @@ module _ (k p : ℕ) (ls : List (List (Place × ℕ))) (found now : Option ℕ) 
       λ beyond. before_piece e es sorted parts (omega (arith, beyond)),
     );
   }
+    where
+      up : (o : Option ℕ) → IfSome o (λ i. i < p) → IfSome o (λ i. i < p + 1)
+      up None is = tt
+      up (Some i) is = omega (arith, is)
+
+      by : (b : Bool) → r ≡ b → IfSome now (λ i. i < p + 1)
+      by true is = subst (λ (o : Option ℕ). IfSome o (λ i. i < p + 1)) (sym (taken is).1) (omega arith)
+      by false is = subst (λ (o : Option ℕ). IfSome o (λ i. i < p + 1)) (sym (kept is).1) (up found h.within)
 
 -- the entries that are left of a piece
 pub left_here : (left : List (Bor (List Cell))) (p : ℕ) (d : Bor (List Cell)) → p < length left →
@@ -140,3 +149,54 @@ left_here left p d here es parts =
     sym (get_or-map f left p d (f d) here)
     ∙ part_here 0 (length left) p (entries_left left) es (f d) (omega (arith, here, length-map left f)) parts
     ∙ ap (λ (n : ℕ). part_entries n (length left) es) {x = 0 + p} {y = p} (omega arith)
+
+module _ (k : ℕ) (e : Place × ℕ) (es : List (Place × ℕ)) where
+  -- an entry of a shard before these is in none of them
+  parts_behind : (s : ℕ) (ls : List (List (Place × ℕ))) → e.0.0 % k < s → AreParts s k ls (e ∷ es) → AreParts s k ls es
+  parts_behind s [] below h = h
+  parts_behind s (l ∷ ls) below h =
+      (h.0 ∙ entries_out k e es s (λ is. omega (arith, below, is)), parts_behind (s + 1) ls (omega (arith, below)) h.1)
+
+  -- an entry that comes first in its list is taken off
+  parts_next : (s j : ℕ) (ls : List (List (Place × ℕ))) (d r : List (Place × ℕ)) → e.0.0 % k ≡ s + j → j < length ls →
+      get_or ls j d ≡ e ∷ r → AreParts s k ls (e ∷ es) → AreParts s k (set ls j r) es
+  parts_next s j [] d r here within first h = absurd (omega (arith, within))
+  parts_next s zero (l ∷ ls) d r here within first h =
+      let both : e ∷ r ≡ e ∷ part_entries s k es = sym first ∙ h.0 ∙ entries_in k e es s (omega (arith, here)) in
+      (cc, parts_behind (s + 1) ls (omega (arith, here)) h.1)
+  parts_next s (suc j) (l ∷ ls) d r here within first h = (
+    h.0 ∙ entries_out k e es s (λ is. omega (arith, here, is)),
+    parts_next (s + 1) j ls d r (omega (arith, here)) (omega (arith, within)) first h.1,
+  )
+
+module _ (left : List (Bor (List Cell))) (p : ℕ) (d : Bor (List Cell)) (e : Place × ℕ) (es : List (Place × ℕ))
+    (some : 0 < length left) (found : Some p ≡ Some (e.0.0 % length left))
+    (parts : AreParts 0 (length left) (entries_left left) (e ∷ es)) where
+  here_is : p ≡ e.0.0 % length left
+  here_is = cc
+
+  pub piece_begins : HasFirst e (get_or left p d).now
+  piece_begins = begins (get_or left p d).now e (part_entries p (length left) es)
+      (left_here left p d (omega (arith, here_is, some)) (e ∷ es) parts
+      ∙ entries_in (length left) e es p (sym here_is))
+
+  -- it isn't empty
+  pub piece_has : length (get_or left p d).now ≡ 0 → ⊥
+  piece_has none = absurd (omega (arith, none, ap length piece_begins.2))
+
+  module _ (c : Cell) (rest : Bor (List Cell)) (is : (get_or left p d).now ≡ c ∷ rest.now) where
+    pub first_is : entry_of c ≡ e
+    first_is =
+        let all : c ∷ rest.now ≡ piece_begins.0 ∷ piece_begins.1 = sym is ∙ piece_begins.2 in
+        let same : c ≡ piece_begins.0 = cc in
+        ap entry_of same ∙ piece_begins.3
+
+    pub rest_are : AreParts 0 (length left) (entries_left (set left p rest)) es
+    rest_are =
+        let f : Bor (List Cell) → List (Place × ℕ) = λ x. map entry_of x.now in
+        let within : p < length left = omega (arith, here_is, some) in
+        let at : get_or (entries_left left) p (f d) ≡ e ∷ f rest =
+        get_or-map f left p d (f d) within ∙ ap (map entry_of) is ∙ ap (λ (x : Place × ℕ). x ∷ f rest) first_is in
+        subst (λ (ls : List (List (Place × ℕ))). AreParts 0 (length left) ls es) (sym (map-set f left p rest))
+        (parts_next (length left) e es 0 p (entries_left left) (f d) (f rest) (omega (arith, here_is))
+        (omega (arith, within, length-map left f)) at parts)

@@ -8,7 +8,7 @@
 --                         `found` its index: where e is the first of all entries, it is in that list, or not in these
 use Rattle.std.specs.Borrow.{Bor}
 use Rattle.std.specs.FinMap.{is_sorted}
-use Rattle.std.specs.Prelude.{◌≡◌, ℕ, ◌+◌, ◌%◌, ◌<◌, ◌≤◌, T, true, List, [], ◌∷◌, map, Option, None, Some}
+use Rattle.std.specs.Prelude.{◌≡◌, ℕ, ◌+◌, ◌%◌, ◌<◌, ◌≤◌, T, true, List, [], ◌∷◌, map, Option, None, Some, IfSome}
 use Rattle.cells.specs.declared.cell.Cell.{Cell}
 use Rattle.hyper_matrix.specs.Counts.{Place, place_cmp}
 use Rattle.hyper_matrix.specs.Cells.{entry_of, place_of}
@@ -29,6 +29,7 @@ abbrev pub IsLater : Place × ℕ → List Cell → Type 0
 IsLater e cells = (c : Cell) (cs : List Cell) → cells ≡ c ∷ cs → is_before e.0 (place_of c) ≡ true
 
 pub record Leads (k n : ℕ) (ls : List (List (Place × ℕ))) (found : Option ℕ) (first : List Cell) : Type 0 where
+  pub within : IfSome found (λ i. i < n)
   pub none : AreParts 0 k ls [] → (found ≡ None) × (first ≡ [])
   pub some : (e : Place × ℕ) (es : List (Place × ℕ)) → T (is_sorted place_cmp (e ∷ es)) → AreParts 0 k ls (e ∷ es) →
       (e.0.0 % k < n → (found ≡ Some (e.0.0 % k)) × HasFirst e first) × (n ≤ e.0.0 % k → IsLater e first)

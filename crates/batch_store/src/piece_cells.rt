@@ -1,7 +1,7 @@
 //! The cells of all pieces of a matrix, by row and then by column.
-ghost use Rattle.std.specs.Prelude.{◌≡◌, ◌%◌, ◌<◌, ◌∷◌, [], ℕ, List, None, Some, T, length, true, false};
+ghost use Rattle.std.specs.Prelude.{◌≡◌, ◌%◌, ◌<◌, ◌∷◌, [], ℕ, List, None, Some, IfSome, T, length, option_map, true, false};
 ghost use Rattle.cells.specs.declared.cell.Cell.{Cell};
-ghost use Rattle.hyper_matrix.specs.Cells.{place_of};
+ghost use Rattle.hyper_matrix.specs.Cells.{entry_of, place_of};
 ghost use Rattle.hyper_matrix.specs.Search.{is_before};
 ghost use Rattle.std.specs.FinMap.{is_sorted};
 ghost use Rattle.hyper_matrix.specs.Counts.{Place, place_cmp};
@@ -27,6 +27,7 @@ fn is_next(cells: &[Cell], others: &[Cell]) -> bool
 // The piece whose next cell comes before those of all others; None where no cell is left.
 fn first_piece(left: &[&[Cell]]) -> Option<usize>
     requires { 0 < length left.now }
+    ensures within { IfSome result (λ piece. piece < length left.now) }
     ensures none { AreParts 0 (length left.now) (entries_left left.now) [] → result ≡ None }
     ensures some { (e : Place × ℕ) (es : List (Place × ℕ)) → T (is_sorted place_cmp (e ∷ es)) →
         AreParts 0 (length left.now) (entries_left left.now) (e ∷ es) → result ≡ Some (e.0.0 % length left.now) }
@@ -40,4 +41,20 @@ fn first_piece(left: &[&[Cell]]) -> Option<usize>
         }
     }
     found
+}
+
+/// The next cell of all pieces, of each of which these are the cells that are left: by row and then by column. Takes it
+/// off, so that the cells of a matrix come one after the other. None where no cell is left. A look at each piece.
+pub(crate) fn next_cell(left: &mut [&[Cell]]) -> Option<Cell>
+    requires { 0 < length left.old }
+    ensures length { length left.new ≡ length left.old }
+    ensures none { AreParts 0 (length left.old) (entries_left left.old) [] → result ≡ None }
+    ensures some { (e : Place × ℕ) (es : List (Place × ℕ)) → T (is_sorted place_cmp (e ∷ es)) →
+        AreParts 0 (length left.old) (entries_left left.old) (e ∷ es) →
+        (option_map entry_of result ≡ Some e) × AreParts 0 (length left.old) (entries_left left.new) es }
+{
+    let piece = first_piece(left)?;
+    let (cell, rest) = left[piece].split_first()?;
+    left[piece] = rest;
+    Some(*cell)
 }
