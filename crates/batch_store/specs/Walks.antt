@@ -3,17 +3,20 @@
 --     AreParts s k ls es  each of these lists has exactly the entries of its shard of k, from shard s on
 --     HasFirst e cells    the list begins with a cell of this entry
 --     IsLater e cells     its first cell, if it has one, comes after this entry
+--     merged ls           what these lists of entries come to together
+--     IsWalk k ls         these lists are what is left of so many pieces of a matrix
 --     Leads k n ls found first
 --                         of the first n lists `first` is the one whose first entry comes before those of the others, and
 --                         `found` its index: where e is the first of all entries, it is in that list, or not in these
 use Rattle.std.specs.Borrow.{Bor}
-use Rattle.std.specs.FinMap.{is_sorted}
-use Rattle.std.specs.Prelude.{◌≡◌, ℕ, ◌+◌, ◌%◌, ◌<◌, ◌≤◌, T, true, List, [], ◌∷◌, map, Option, None, Some, IfSome}
+use Rattle.std.specs.FinMap.{is_sorted, entries}
+use Rattle.std.specs.Prelude.{◌≡◌, ℕ, ◌+◌, ◌%◌, ◌<◌, ◌≤◌, T, true, List, [], ◌∷◌, map, length, Option, None, Some, IfSome}
 use Rattle.cells.specs.declared.cell.Cell.{Cell}
-use Rattle.hyper_matrix.specs.Counts.{Place, place_cmp}
+use Rattle.hyper_matrix.specs.Counts.{Place, built, place_cmp}
 use Rattle.hyper_matrix.specs.Cells.{entry_of, place_of}
 use Rattle.hyper_matrix.specs.Parts.{part_entries}
 use Rattle.hyper_matrix.specs.Search.{is_before}
+use Rattle.layer_compaction.specs.Shared.{content}
 
 abbrev pub entries_left : List (Bor (List Cell)) → List (List (Place × ℕ))
 entries_left left = map (λ (cells : Bor (List Cell)). map entry_of cells.now) left
@@ -33,3 +36,10 @@ pub record Leads (k n : ℕ) (ls : List (List (Place × ℕ))) (found : Option �
   pub none : AreParts 0 k ls [] → (found ≡ None) × (first ≡ [])
   pub some : (e : Place × ℕ) (es : List (Place × ℕ)) → T (is_sorted place_cmp (e ∷ es)) → AreParts 0 k ls (e ∷ es) →
       (e.0.0 % k < n → (found ≡ Some (e.0.0 % k)) × HasFirst e first) × (n ≤ e.0.0 % k → IsLater e first)
+
+abbrev pub merged : List (List (Place × ℕ)) → List (Place × ℕ)
+merged ls = entries (content (map built ls))
+
+abbrev pub IsWalk : ℕ → List (List (Place × ℕ)) → Type 0
+IsWalk k ls = (0 < k) × (k ≤ 64) × (length ls ≡ k)
+    × ((es : List (Place × ℕ)) × T (is_sorted place_cmp es) × AreParts 0 k ls es)

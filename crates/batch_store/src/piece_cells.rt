@@ -7,8 +7,10 @@ ghost use Rattle.std.specs.FinMap.{is_sorted};
 ghost use Rattle.hyper_matrix.specs.Counts.{Place, place_cmp};
 ghost use Rattle.batch_store.specs.Walks.{AreParts, entries_left};
 
+use crate::limits::MAX_SHARDS;
 use cells::Cell;
 use hyper_matrix::is_before;
+use std::marker::Model;
 
 // Whether the next cell of one piece comes before that of another; so it does where the other has none.
 fn is_next(cells: &[Cell], others: &[Cell]) -> bool
@@ -57,4 +59,42 @@ pub(crate) fn next_cell(left: &mut [&[Cell]]) -> Option<Cell>
     let (cell, rest) = left[piece].split_first()?;
     left[piece] = rest;
     Some(*cell)
+}
+
+/// The cells of a matrix that is cut in pieces, by row and then by column, as `Pieces::cells` gives them. It borrows the
+/// pieces.
+///
+/// Contracts see the list of the entries that are still to come, as those of `hyper_matrix::Cells`. A call of `next` looks
+/// at each piece, and takes no memory. After None it goes on to answer None.
+#[derive(Drop)]
+pub struct PieceCells<'a> {
+    left: [&'a [Cell]; MAX_SHARDS as usize],
+    count: usize,
+}
+
+impl<'a> Model for PieceCells<'a> {
+    ghost use Rattle.std.specs.Prelude.{ℕ, List, take};
+    ghost use Rattle.hyper_matrix.specs.Counts.{Place};
+    ghost use Rattle.batch_store.specs.Walks.{IsWalk, entries_left, merged};
+
+    ghost Value = { List (Place × ℕ) };
+
+    ghost view = { λ c. merged (entries_left (take c.count c.left)) };
+
+    ghost invariant = { λ c. IsWalk c.count (entries_left (take c.count c.left)) };
+}
+
+impl<'a> Iterator for PieceCells<'a> {
+    type Item = Cell;
+
+    ghost use Rattle.std.specs.Iterator.{YieldsFirstBy, item_count};
+    ghost use Rattle.hyper_matrix.specs.Cells.{entry_of};
+
+    ghost next_gives = { YieldsFirstBy entry_of (λ left. left) };
+
+    ghost remaining = { item_count (λ left. left) };
+
+    fn next(&mut self) -> Option<Cell> {
+        next_cell(&mut self.left[..self.count])
+    }
 }
