@@ -16,3 +16,4 @@ pub mod BatchPartLaws
 pub mod GrowthLaws
 pub mod PieceLaws
 pub mod WalkLaws
+pub mod MergedLaws

@@ -1,21 +1,28 @@
 -- The pieces of a matrix make the whole.
-use Rattle.std.proofs.Common.{◌≡◌, ℕ, suc, zero, ◌+◌, ◌<◌, ◌≤◌, ◌^◌, List, [], ◌∷◌, ◌++◌, length, refl, sym, ◌∙◌}
-use Rattle.std.proofs.Common.{ap, subst, arith, get_or, Option, None, cond, append-nil, append_assoc, length-append, ◌%◌, eqb, inl, inr}
-use Rattle.std.proofs.lemmas.Bool.{cases_order, eq-eqb, ne_eqb}
+use Rattle.std.proofs.Common.{◌≡◌, ℕ, suc, zero, ◌<◌, ◌≤◌, ◌^◌, T, List, [], ◌∷◌, length, map, refl, sym, ◌∙◌}
+use Rattle.std.proofs.Common.{ap, subst, arith, get_or}
 use Rattle.std.proofs.lemmas.List.{get_or-map, length-map, map-append}
 use Rattle.std.specs.Arc.{arc_value}
 use Rattle.std.specs.declared.sync.Arc.{Arc}
-use Rattle.std.specs.FinMap.{empty, get, get-empty}
-use Rattle.cells.specs.Bounds.{IsDimension}
-use Rattle.hyper_matrix.specs.Counts.{Counts, ewise_add, part, parts, place_cmp, total}
+use Rattle.std.specs.FinMap.{entries, entries_sorted, is_sorted, len}
+use Rattle.std.specs.List.{AllByRecursion}
+use Rattle.cells.specs.Bounds.{AreWithin, IsDimension}
+use Rattle.cells.specs.Order.{Rise}
+use Rattle.cells.specs.declared.cell.Cell.{Cell}
+use Rattle.hyper_matrix.specs.Cells.{built_of, cell_total, entry_of}
+use Rattle.hyper_matrix.specs.Counts.{Counts, Place, built, count_sum, ewise_add, part, parts, place_cmp, total}
 use Rattle.hyper_matrix.specs.Matrix.{Matrix, matrix}
 use Rattle.hyper_matrix.specs.Parts.{parts_below, shard_part}
-use Rattle.hyper_matrix.proofs.CountLaws.{ewise_add-empty, get-part, parts_whole, same_counts}
-use Rattle.hyper_matrix.proofs.PartLaws.{length-parts_below, part-ewise_add, part_read}
+use Rattle.hyper_matrix.specs.Shared.{LiesWithin}
+use Rattle.hyper_matrix.proofs.BuiltOfLaws.{entries_total}
+use Rattle.hyper_matrix.proofs.CountLaws.{ewise_add-empty, parts_whole}
+use Rattle.hyper_matrix.proofs.MatrixLaws.{cells_within}
+use Rattle.hyper_matrix.proofs.PartLaws.{built-entries, length-parts_below, part-whole, part_read, total-entries}
+use Rattle.hyper_matrix.proofs.PlaceOrderLaws.{rises}
 use Rattle.layer_compaction.specs.Shared.{all_counts, content, values}
-use Rattle.layer_compaction.proofs.LayerLemmas.{content-append, empty-ewise_add}
-use Rattle.batch_store.proofs.SumLaws.{part-empty}
-use Rattle.batch_store.specs.Pieces.{AreOwn, ArePieces, Cut, KeepsPieces, cut_in, whole_of}
+use Rattle.layer_compaction.proofs.LayerLemmas.{content-append}
+use Rattle.merged_cells.specs.Within.{LieWithin}
+use Rattle.batch_store.specs.Pieces.{ArePieces, Cut, KeepsPieces, cut_in, whole_of}
 
 content_parts : (n k : ℕ) (m : Matrix) → content (all_counts (parts_below n k m)) ≡ parts m.counts n k
 content_parts zero k m = refl
@@ -40,16 +47,21 @@ module _ (r c k : ℕ) (m : Matrix) (list : List Matrix) (rows : r ≡ m.rows) (
   pub cut_is : cut_in (length list) (whole_of r c list) ≡ cut_in k m
   cut_is = λ i. cut_in (many i) (cut_whole i)
 
-  pub cut_keeps : IsDimension m.rows → IsDimension m.cols → k ≤ 64 →
-      total m.counts < 2 ^ 64 → KeepsPieces r c list
-  cut_keeps dr dc few fits = record {
+  pub cut_keeps : (n t : ℕ) → IsDimension m.rows → IsDimension m.cols → k ≤ 64 → n ≡ len m.counts → t ≡ total m.counts →
+      total m.counts < 2 ^ 64 → LieWithin m.rows m.cols m.counts → KeepsPieces r c n t list
+  cut_keeps n t dr dc few counted adds_up fits within = record {
     rows = subst IsDimension (sym rows) dr;
     cols = subst IsDimension (sym cols) dc;
     some = omega (arith, many, some);
     few = omega (arith, many, few);
     pieces = is ∙ ap (λ (n : ℕ). parts_below n n m) (sym many)
         ∙ ap (parts_below (length list) (length list)) (sym cut_whole);
-    fits = subst (λ (x : Matrix). total x.counts < 2 ^ 64) (sym cut_whole) fits;
+    entries = counted ∙ ap (λ (x : Matrix). len x.counts) (sym cut_whole);
+    total = adds_up ∙ ap (λ (x : Matrix). total x.counts) (sym cut_whole);
+    fits = omega (arith, adds_up, fits);
+    within = subst (λ (x : Matrix). LieWithin r c x.counts) (sym cut_whole)
+        (subst (λ (x : ℕ). LieWithin x c m.counts) (sym rows)
+        (subst (λ (x : ℕ). LieWithin m.rows x m.counts) (sym cols) within));
   }
 
 -- one piece
@@ -67,3 +79,31 @@ piece_read s r c cut items x is here pieces read =
     ap arc_value read ∙ sym (get_or-map arc_value items s x (arc_value x) (omega (arith, many, here, length-map items arc_value))) in
     piece_is s (length (values items)) (whole_of r c (values items)) (arc_value x) (values items) refl
     (omega (arith, many, here)) pieces at ∙ ap (λ (y : Cut). shard_part s y.count y.whole) is
+
+-- the only piece is the whole
+pub only_piece : (k : ℕ) (m : Matrix) → k ≡ 1 → shard_part 0 k m ≡ m
+only_piece k m one = ap (matrix m.rows m.cols) (part-whole m.counts 0 k (omega (arith, one)) one)
+
+-- a list of the entries of pieces
+module _ (r c : ℕ) (cut : Cut) (ms : List Matrix) (cells : List Cell) (n t : ℕ)
+    (view : cut_in (length ms) (whole_of r c ms) ≡ cut) (keeps : KeepsPieces r c n t ms)
+    (told : map entry_of cells ≡ entries cut.whole.counts) where
+  own : map entry_of cells ≡ entries (whole_of r c ms).counts
+  own = told ∙ ap (λ (x : Cut). entries x.whole.counts) (sym view)
+
+  pub cells_rise : Rise cells
+  cells_rise = rises cells (subst (λ (es : List (Place × ℕ)). T (is_sorted place_cmp es)) (sym own)
+      (entries_sorted (whole_of r c ms).counts))
+
+  pub cells_lie : AreWithin r c cells
+  cells_lie = cells_within r c cells (subst (AllByRecursion (LiesWithin r c)) (sym own) keeps.within)
+
+  pub cells_fit : cell_total cells < 2 ^ 64
+  cells_fit = omega (
+    arith,
+    sym (entries_total cells) ∙ ap count_sum own ∙ sym (total-entries (whole_of r c ms).counts) ∙ sym keeps.total,
+    keeps.fits,
+  )
+
+  pub cells_build : matrix r c (built_of cells) ≡ cut.whole
+  cells_build = ap (matrix r c) (ap built own ∙ built-entries (whole_of r c ms).counts) ∙ ap (λ (x : Cut). x.whole) view

@@ -1,5 +1,5 @@
 -- The next cell among those of all pieces of a matrix.
-use Rattle.std.proofs.Common.{◌≡◌, ℕ, zero, suc, ◌+◌, ◌<◌, ◌≤◌, ◌%◌, Bool, true, false, cond, T, ◌&&◌, List, [], ◌∷◌, length, get_or, set}
+use Rattle.std.proofs.Common.{◌≡◌, ℕ, zero, suc, ◌+◌, ◌<◌, ◌%◌, Bool, true, false, cond, T, List, [], ◌∷◌, length, get_or, set}
 use Rattle.std.proofs.Common.{Option, None, Some, IfSome, map, refl, sym, ◌∙◌, ap, subst, arith, inl, inr, Bor}
 use Rattle.std.proofs.lemmas.Bool.{cases_order, eq-eqb, ne_eqb, false≢true}
 use Rattle.std.proofs.lemmas.List.{get_or-map, length-map, map-set}

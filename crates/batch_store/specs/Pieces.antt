@@ -3,8 +3,11 @@
 --     whole_of r c list   what matrices of these dimensions add up to
 --     ArePieces r c list  the list has the parts of that whole in as many shards as it is long, in order
 --     ArePartsOf m list   the list has the parts of m in as many shards as it is long, in order
---     KeepsPieces         what pieces keep: that, and that their total fits 64 bits
+--     KeepsPieces         what pieces keep: that, the number of their entries and their total, and that each entry lies
+--                         within the dimensions
 use Rattle.std.specs.Prelude.{◌≡◌, ℕ, ◌<◌, ◌≤◌, ◌^◌, List, length, refl}
+use Rattle.std.specs.FinMap.{len}
+use Rattle.merged_cells.specs.Within.{LieWithin}
 use Rattle.std.specs.Coded.{Coded, code_by, coded×, coded_ℕ}
 use Rattle.cells.specs.Bounds.{IsDimension}
 use Rattle.hyper_matrix.specs.Counts.{total}
@@ -31,10 +34,13 @@ ArePartsOf m list = list ≡ parts_below (length list) (length list) m
 abbrev pub ArePieces : ℕ → ℕ → List Matrix → Type 0
 ArePieces r c list = ArePartsOf (whole_of r c list) list
 
-pub record KeepsPieces (r c : ℕ) (list : List Matrix) : Type 0 where
+pub record KeepsPieces (r c n t : ℕ) (list : List Matrix) : Type 0 where
   pub rows : IsDimension r
   pub cols : IsDimension c
   pub some : 0 < length list
   pub few : length list ≤ 64
   pub pieces : ArePieces r c list
-  pub fits : total (whole_of r c list).counts < 2 ^ 64
+  pub entries : n ≡ len (whole_of r c list).counts
+  pub total : t ≡ total (whole_of r c list).counts
+  pub fits : t < 2 ^ 64
+  pub within : LieWithin r c (whole_of r c list).counts

@@ -1,5 +1,6 @@
 -- A walk over the cells of all pieces of a matrix, in order.
 --     entries_left left   the entries of each piece that are still to come
+--     entries_each ms     the entries of each of these matrices
 --     AreParts s k ls es  each of these lists has exactly the entries of its shard of k, from shard s on
 --     HasFirst e cells    the list begins with a cell of this entry
 --     IsLater e cells     its first cell, if it has one, comes after this entry
@@ -14,12 +15,16 @@ use Rattle.std.specs.Prelude.{◌≡◌, ℕ, ◌+◌, ◌%◌, ◌<◌, ◌≤�
 use Rattle.cells.specs.declared.cell.Cell.{Cell}
 use Rattle.hyper_matrix.specs.Counts.{Place, built, place_cmp}
 use Rattle.hyper_matrix.specs.Cells.{entry_of, place_of}
+use Rattle.hyper_matrix.specs.Matrix.{Matrix}
 use Rattle.hyper_matrix.specs.Parts.{part_entries}
 use Rattle.hyper_matrix.specs.Search.{is_before}
 use Rattle.layer_compaction.specs.Shared.{content}
 
 abbrev pub entries_left : List (Bor (List Cell)) → List (List (Place × ℕ))
 entries_left left = map (λ (cells : Bor (List Cell)). map entry_of cells.now) left
+
+abbrev pub entries_each : List Matrix → List (List (Place × ℕ))
+entries_each ms = map (λ (m : Matrix). entries m.counts) ms
 
 abbrev pub AreParts : ℕ → ℕ → List (List (Place × ℕ)) → List (Place × ℕ) → Type 0
 AreParts s k [] es = Unit {0}

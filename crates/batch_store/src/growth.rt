@@ -12,8 +12,8 @@ use crate::batch::Batch;
 use crate::book_list::BookList;
 use crate::fault::GrowthFault;
 use crate::misfit::{Misfit, Number};
-use crate::setup::Setup;
 use crate::pieces::Pieces;
+use crate::setup::Setup;
 use std::alloc::{AllocError, Global};
 use std::sync::Arc;
 
@@ -43,11 +43,7 @@ impl Batch {
 }
 
 // A base in a matrix of the setup's dimensions.
-fn widened_base(
-    alloc: Global,
-    setup: &Setup,
-    base: &Pieces,
-) -> Result<Arc<Pieces>, AllocError>
+fn widened_base(alloc: Global, setup: &Setup, base: &Pieces) -> Result<Arc<Pieces>, AllocError>
     requires rows { base.now.whole.rows ≤ setup.now.rows }
     requires cols { base.now.whole.cols ≤ setup.now.cols }
     ensures { IfOk result (λ p.

@@ -1,16 +1,20 @@
 //! The cells of all pieces of a matrix, by row and then by column.
-ghost use Rattle.std.specs.Prelude.{◌≡◌, ◌%◌, ◌<◌, ◌∷◌, [], ℕ, List, None, Some, IfSome, T, length, option_map, true, false};
+ghost use Rattle.std.specs.Prelude.{◌≡◌, ◌%◌, ◌<◌, ◌≤◌, ◌∷◌, [], ℕ, List, None, Some, IfSome, T, length, option_map};
+ghost use Rattle.std.specs.Prelude.{true, false};
+ghost use Rattle.std.specs.FinMap.{entries, is_sorted};
 ghost use Rattle.cells.specs.declared.cell.Cell.{Cell};
 ghost use Rattle.hyper_matrix.specs.Cells.{entry_of, place_of};
-ghost use Rattle.hyper_matrix.specs.Search.{is_before};
-ghost use Rattle.std.specs.FinMap.{is_sorted};
 ghost use Rattle.hyper_matrix.specs.Counts.{Place, place_cmp};
-ghost use Rattle.batch_store.specs.Walks.{AreParts, entries_left};
+ghost use Rattle.hyper_matrix.specs.Search.{is_before};
+ghost use Rattle.layer_compaction.specs.Shared.{all_counts, content, values};
+ghost use Rattle.batch_store.specs.Pieces.{ArePieces};
+ghost use Rattle.batch_store.specs.Walks.{AreParts, entries_each, entries_left};
 
 use crate::limits::MAX_SHARDS;
 use cells::Cell;
-use hyper_matrix::is_before;
+use hyper_matrix::{Hyper, is_before};
 use std::marker::Model;
+use std::sync::Arc;
 
 // Whether the next cell of one piece comes before that of another; so it does where the other has none.
 fn is_next(cells: &[Cell], others: &[Cell]) -> bool
@@ -50,7 +54,7 @@ fn first_piece(left: &[&[Cell]]) -> Option<usize>
 pub(crate) fn next_cell(left: &mut [&[Cell]]) -> Option<Cell>
     requires { 0 < length left.old }
     ensures length { length left.new ≡ length left.old }
-    ensures none { AreParts 0 (length left.old) (entries_left left.old) [] → result ≡ None }
+    ensures none { AreParts 0 (length left.old) (entries_left left.old) [] → (result ≡ None) × (left.new ≡ left.old) }
     ensures some { (e : Place × ℕ) (es : List (Place × ℕ)) → T (is_sorted place_cmp (e ∷ es)) →
         AreParts 0 (length left.old) (entries_left left.old) (e ∷ es) →
         (option_map entry_of result ≡ Some e) × AreParts 0 (length left.old) (entries_left left.new) es }
@@ -82,6 +86,31 @@ impl<'a> Model for PieceCells<'a> {
     ghost view = { λ c. merged (entries_left (take c.count c.left)) };
 
     ghost invariant = { λ c. IsWalk c.count (entries_left (take c.count c.left)) };
+}
+
+// Puts the cells of each matrix at its place.
+fn start_each<'a>(left: &mut [&'a [Cell]], list: &'a [Arc<Hyper>])
+    requires { length left.old ≡ length list.now }
+    ensures { entries_left left.new ≡ entries_each (values list.now) }
+{
+    'matrices: for (place, matrix) in list.iter().enumerate() {
+        left[place] = matrix.as_cells();
+    }
+}
+
+impl<'a> PieceCells<'a> {
+    /// All cells of these pieces.
+    pub(crate) fn new(list: &'a [Arc<Hyper>]) -> PieceCells<'a>
+        requires some { 0 < length list.now }
+        requires few { length list.now ≤ 64 }
+        requires pieces { (rows cols : ℕ) × ArePieces rows cols (values list.now) }
+        ensures { result ≡ entries (content (all_counts (values list.now))) }
+    {
+        let mut left: [&'a [Cell]; MAX_SHARDS as usize] = [&[]; MAX_SHARDS as usize];
+        let count = list.len();
+        start_each(&mut left[..count], list);
+        PieceCells { left, count }
+    }
 }
 
 impl<'a> Iterator for PieceCells<'a> {

@@ -1,13 +1,16 @@
 //! A matrix that is cut by shards, one piece for each.
-ghost use Rattle.std.specs.Prelude.{◌≡◌, ◌<◌, ◌≤◌, ◌^◌, IfOk, length};
+ghost use Rattle.std.specs.Prelude.{◌≡◌, ◌<◌, ◌≤◌, ◌^◌, IfOk, length, map};
 ghost use Rattle.std.specs.Arc.{arc_value};
-ghost use Rattle.cells.specs.Bounds.{IsDimension};
-ghost use Rattle.hyper_matrix.specs.Counts.{Counts, total};
-ghost use Rattle.hyper_matrix.specs.Matrix.{matrix};
-ghost use Rattle.hyper_matrix.specs.Parts.{parts_below, shard_part};
+ghost use Rattle.std.specs.FinMap.{entries, len};
+ghost use Rattle.hyper_matrix.specs.Cells.{entry_of};
+ghost use Rattle.hyper_matrix.specs.Counts.{total};
+ghost use Rattle.hyper_matrix.specs.Parts.{shard_part};
 ghost use Rattle.layer_compaction.specs.Shared.{values};
+ghost use Rattle.merged_cells.specs.Within.{LieWithin};
 ghost use Rattle.batch_store.specs.Pieces.{ArePartsOf, cut_in};
 
+use crate::piece_cells::PieceCells;
+use cells::Cell;
 use hyper_matrix::Hyper;
 use std::alloc::{AllocError, Global};
 use std::marker::Model;
@@ -21,6 +24,7 @@ pub struct Pieces {
     rows: u64,
     cols: u64,
     entries: u64,
+    total: u64,
     list: Vec<Arc<Hyper>>,
 }
 
@@ -35,7 +39,7 @@ impl Model for Pieces {
 
     ghost view = { λ p. cut_in (length (values p.list.items)) (whole_of p.rows p.cols (values p.list.items)) };
 
-    ghost invariant = { λ p. KeepsPieces p.rows p.cols (values p.list.items) };
+    ghost invariant = { λ p. KeepsPieces p.rows p.cols p.entries p.total (values p.list.items) };
 }
 
 // Shares each of these.
@@ -49,31 +53,22 @@ fn shared(alloc: Global, parts: Vec<Hyper>) -> Result<Vec<Arc<Hyper>>, AllocErro
     Ok(list)
 }
 
-// How many entries these have together.
-fn entries_of(list: &[Arc<Hyper>]) -> u64 {
-    let mut entries = 0u64;
-    'pieces: for piece in list {
-        entries = entries.saturating_add(piece.entries());
-    }
-    entries
-}
-
 impl Pieces {
-    /// The pieces of a matrix, each made apart.
-    pub fn of(rows: u64, cols: u64, list: Vec<Arc<Hyper>>) -> Pieces
-        requires rows { IsDimension rows }
-        requires cols { IsDimension cols }
-        requires some { 0 < length (values list.items) }
-        requires few { length (values list.items) ≤ 64 }
-        requires parts { (m : Counts) × (total m < 2 ^ 64) × ArePartsOf (matrix rows cols m) (values list.items) }
-        ensures { (m : Counts) → ArePartsOf (matrix rows cols m) (values list.items) →
-            result ≡ cut_in (length (values list.items)) (matrix rows cols m) }
+    // The pieces of a matrix.
+    fn of(whole: &Hyper, list: Vec<Arc<Hyper>>) -> Pieces
+        requires some { 0 < length list.items }
+        requires few { length list.items ≤ 64 }
+        requires parts { ArePartsOf whole.now (values list.items) }
+        ensures { result ≡ cut_in (length list.items) whole.now }
     {
-        let entries = entries_of(&list);
+        let (rows, cols) = whole.dims();
+        // It says that the cells lie within these.
+        let _cells = whole.iter();
         Pieces {
             rows,
             cols,
-            entries,
+            entries: whole.entries(),
+            total: whole.total(),
             list,
         }
     }
@@ -89,20 +84,12 @@ impl Pieces {
         requires few { count ≤ 64 }
         ensures { IfOk result (λ p. p ≡ cut_in count whole.now) }
     {
-        // It bounds the total.
-        let _total = whole.total();
-        let (rows, cols) = whole.dims();
         let parts = whole.parts(alloc, count)?;
         let list = shared(alloc, parts)?;
-        Ok(Pieces {
-            rows,
-            cols,
-            entries: whole.entries(),
-            list,
-        })
+        Ok(Pieces::of(whole, list))
     }
 
-    /// The number of pieces. Constant time, as the next three.
+    /// The number of pieces. Constant time, as the next two.
     pub fn count(&self) -> u64
         ensures value { result ≡ self.now.count }
         ensures some { 0 < result }
@@ -113,12 +100,39 @@ impl Pieces {
 
     /// The number of entries of the whole.
     pub fn entries(&self) -> u64
+        ensures { result ≡ len self.now.whole.counts }
     {
         self.entries
     }
 
-    /// The whole as one matrix: the only piece, or the sum of several, which takes a pass over what was added before for
-    /// each.
+    /// The sum of all its counts.
+    pub fn total(&self) -> u64
+        ensures value { result ≡ total self.now.whole.counts }
+        ensures fits { total self.now.whole.counts < 2 ^ 64 }
+    {
+        self.total
+    }
+
+    /// The cells by row and then by column, each place once. It takes the time of a pointer for each piece, and no memory.
+    pub fn cells(&self) -> PieceCells<'_>
+        ensures order { result ≡ entries self.now.whole.counts }
+        ensures within { LieWithin self.now.whole.rows self.now.whole.cols self.now.whole.counts }
+    {
+        PieceCells::new(&self.list)
+    }
+
+    // All cells in a list. One growth.
+    fn listed(&self, alloc: Global) -> Result<Vec<Cell>, AllocError>
+        ensures { IfOk result (λ list. map entry_of list.items ≡ entries self.now.whole.counts) }
+    {
+        let mut list = Vec::with_capacity(alloc, self.entries as usize)?;
+        'cells: for cell in self.cells() {
+            list.push(cell)?;
+        }
+        Ok(list)
+    }
+
+    /// The whole as one matrix. One piece shares its cells with it; several are copied into one list.
     ///
     /// # Errors
     ///
@@ -126,23 +140,13 @@ impl Pieces {
     pub fn sum(&self, alloc: Global) -> Result<Hyper, AllocError>
         ensures { IfOk result (λ m. m ≡ self.now.whole) }
     {
-        let mut sum = self.list[0].copy(alloc)?;
-        'pieces: for s in 1..self.list.len() {
-            let piece = self.list[s].copy(alloc)?;
-            sum = sum.into_sum(alloc, piece)?;
+        if self.list.len() == 1 {
+            let only = self.list[0].copy(alloc)?;
+            return Ok(only);
         }
+        let list = self.listed(alloc)?;
+        let sum = Hyper::from_sorted(alloc, self.rows, self.cols, list)?;
         Ok(sum)
-    }
-
-    /// The sum of all counts.
-    pub fn total(&self) -> u64
-        ensures { result ≡ total self.now.whole.counts }
-    {
-        let mut all = 0;
-        'pieces: for piece in &self.list {
-            all += piece.total();
-        }
-        all
     }
 
     /// Piece `s`.

@@ -1,4 +1,4 @@
-use Rattle.std.proofs.Common.{◌≡◌, ◌%◌, Bool, true, false, List, [], Some, ap, arith, get_or, length, refl, sym, ◌∙◌, Bor}
+use Rattle.std.proofs.Common.{List, [], ap, arith, get_or, length, sym, ◌∙◌, Bor}
 use Rattle.cells.specs.declared.cell.Cell.{Cell}
 use Rattle.std.proofs.lemmas.Bool.{false≢true}
 use Rattle.batch_store.specs.Walks.{entries_left}
@@ -12,7 +12,7 @@ pieces-preserved c =
     let d : Bor (List Cell) = record { ref_ptr = (0, 0); now = [] } in
     let i = c.is_next.ensures in
     elim c.if-is_next.branch [
-      then-is_next w ↦ leads_next (length left) c.pieces.piece (entries_left left) c.pieces.found c.if-is_next.found
+      | then-is_next w ↦ leads_next (length left) c.pieces.piece (entries_left left) c.pieces.found c.if-is_next.found
           c.pieces.first.now c.if-is_next.first.now (get_or left c.pieces.piece d).now c.is_next.result
           (left_here left c.pieces.piece d c.pieces-test.true) i.none i.last i.both c.pieces.invariant
           (λ yes. (ap (λ x. x.now) w.first-is, w.found-is))

@@ -1,4 +1,4 @@
-use Rattle.std.proofs.Common.{◌≡◌, List, [], Bor, ap, sym, ◌∙◌, Some}
+use Rattle.std.proofs.Common.{List, [], Bor, ap, sym, ◌∙◌, Some}
 use Rattle.cells.specs.declared.cell.Cell.{Cell}
 use Rattle.batch_store.proofs.WalkLaws.{piece_has, first_is, rest_are}
 use Rattle.batch_store.proofs.piece_cells.next_cell.Goals as goal
