@@ -17,3 +17,5 @@ pub mod GrowthLaws
 pub mod PieceLaws
 pub mod WalkLaws
 pub mod MergedLaws
+pub mod PieceSums
+pub mod SameMatrices

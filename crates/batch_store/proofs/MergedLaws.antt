@@ -96,14 +96,14 @@ walk_begins r c ms some few pieces =
     let f : Matrix → List (Place × ℕ) = λ x. entries x.counts in
     let m = whole_of r c ms in
     let are = subst (λ (xs : List Matrix). AreParts 0 (length ms) (entries_each xs) (entries m.counts)) (sym pieces)
-        (part_lists (length ms) (length ms) m) in
+    (part_lists (length ms) (length ms) m) in
     (some, few, length-map ms f, (entries m.counts, entries_sorted m.counts, are))
 
 -- the step that `next` makes
 module _ (k : ℕ) (old new : List (List (Place × ℕ))) (r : Option Cell) (walk : IsWalk k old) (many : length new ≡ k)
     (none : AreParts 0 k old [] → (r ≡ None) × (new ≡ old))
     (some : (e : Place × ℕ) (es : List (Place × ℕ)) → T (is_sorted place_cmp (e ∷ es)) → AreParts 0 k old (e ∷ es) →
-        (option_map entry_of r ≡ Some e) × AreParts 0 k new es) where
+    (option_map entry_of r ≡ Some e) × AreParts 0 k new es) where
   abbrev pub Steps : Option Cell → Type 0
   Steps o = MatchOption o ((merged old ≡ []) × (merged new ≡ [])) (λ x. merged old ≡ entry_of x ∷ merged new)
 
@@ -120,8 +120,7 @@ module _ (k : ℕ) (old new : List (List (Place × ℕ))) (r : Option Cell) (wal
       (subst (IsWalk k) (sym n.1) walk, subst Steps (sym n.0) (nothing, ap merged n.1 ∙ nothing))
   step (e ∷ es) sorted are =
       let s = some e es sorted are in
-      let rest : T (is_sorted place_cmp es) = T_second _ _ sorted in
-      (
+      let rest : T (is_sorted place_cmp es) = T_second _ _ sorted in (
         (walk.0, walk.1, many, (es, rest, s.1)),
         with_first e r s.0 (merged_is k old (e ∷ es) walk.0 walk.2 sorted are
             ∙ ap (λ (xs : List (Place × ℕ)). e ∷ xs) (sym (merged_is k new es walk.0 many rest s.1))),
@@ -135,10 +134,10 @@ module _ (left new rest : List (Bor (List Cell))) (count : ℕ) (r : Option Cell
     (is : merged (entries_left (take count left)) ≡ view) (walk : IsWalk count (entries_left (take count left)))
     (many : length new ≡ length (take count left))
     (none : AreParts 0 (length (take count left)) (entries_left (take count left)) [] →
-        (r ≡ None) × (new ≡ take count left))
+    (r ≡ None) × (new ≡ take count left))
     (some : (e : Place × ℕ) (es : List (Place × ℕ)) → T (is_sorted place_cmp (e ∷ es)) →
-        AreParts 0 (length (take count left)) (entries_left (take count left)) (e ∷ es) →
-        (option_map entry_of r ≡ Some e) × AreParts 0 (length (take count left)) (entries_left new) es) where
+    AreParts 0 (length (take count left)) (entries_left (take count left)) (e ∷ es) →
+    (option_map entry_of r ≡ Some e) × AreParts 0 (length (take count left)) (entries_left new) es) where
   used : length (take count left) ≡ count
   used = sym (length-map (take count left) (λ (x : Bor (List Cell)). map entry_of x.now)) ∙ walk.2
 
@@ -152,16 +151,17 @@ module _ (left new rest : List (Bor (List Cell))) (count : ℕ) (r : Option Cell
       × Left (merged (entries_left (take count (new ++ rest))))
   memory_step =
       let both = walk_step count (entries_left (take count left)) (entries_left new) r walk
-          (length-map new (λ (x : Bor (List Cell)). map entry_of x.now) ∙ many ∙ used)
-          (λ are. let n = none (subst (λ (k : ℕ). AreParts 0 k (entries_left (take count left)) []) (sym used) are) in
-              (n.0, ap entries_left n.1))
-          (λ e es sorted are.
-              let s = some e es sorted (subst (λ (k : ℕ). AreParts 0 k (entries_left (take count left)) (e ∷ es)) (sym used) are) in
-              (s.0, subst (λ (k : ℕ). AreParts 0 k (entries_left new) es) used s.1)) in
+      (length-map new (λ (x : Bor (List Cell)). map entry_of x.now) ∙ many ∙ used)
+      (λ are. let n = none (subst (λ (k : ℕ). AreParts 0 k (entries_left (take count left)) []) (sym used) are) in
+      (n.0, ap entries_left n.1))
+      (λ e es sorted are.
+      let s = some e es sorted (subst (λ (k : ℕ). AreParts 0 k (entries_left (take count left)) (e ∷ es)) (sym used) are) in
+      (s.0, subst (λ (k : ℕ). AreParts 0 k (entries_left new) es) used s.1)) in
       let steps : Left (merged (entries_left new)) = subst (λ (v : List (Place × ℕ)). MatchOption r
-          ((v ≡ []) × (merged (entries_left new) ≡ [])) (λ x. v ≡ entry_of x ∷ merged (entries_left new))) is both.1 in
-      (subst (λ (xs : List (Bor (List Cell))). IsWalk count (entries_left xs)) (sym front) both.0,
-      subst (λ (xs : List (Bor (List Cell))). Left (merged (entries_left xs))) (sym front) steps)
+      ((v ≡ []) × (merged (entries_left new) ≡ [])) (λ x. v ≡ entry_of x ∷ merged (entries_left new))) is both.1 in (
+        subst (λ (xs : List (Bor (List Cell))). IsWalk count (entries_left xs)) (sym front) both.0,
+        subst (λ (xs : List (Bor (List Cell))). Left (merged (entries_left xs))) (sym front) steps,
+      )
 
 -- it ends
 pub goes_on : (can : List (Place × ℕ) → Type 0) → ((l : List (Place × ℕ)) → can l) → (s t : List (Place × ℕ))
@@ -183,7 +183,7 @@ began_next list left i cells m here room is rises builds before =
     let f : Bor (List Cell) → List (Place × ℕ) = λ x. map entry_of x.now in
     let g : Matrix → List (Place × ℕ) = λ x. entries x.counts in
     let own : f cells ≡ g m = sym (entries-in_order (map entry_of cells.now) (sorted_rising cells.now rises))
-        ∙ ap entries (sym (built-in_order (map entry_of cells.now) (sorted_rising cells.now rises)) ∙ builds) in
+    ∙ ap entries (sym (built-in_order (map entry_of cells.now) (sorted_rising cells.now rises)) ∙ builds) in
     ap entries_left (take_more_set left i cells room) ∙ map-append f (take i left) (cells ∷ [])
     ∙ (λ j. before j ++ own j ∷ []) ∙ sym (map-append g (take i list) (m ∷ []))
     ∙ ap (λ (x : Matrix). entries_each (take i list ++ x ∷ [])) is

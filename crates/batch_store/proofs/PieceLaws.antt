@@ -1,16 +1,16 @@
 -- The pieces of a matrix make the whole.
-use Rattle.std.proofs.Common.{◌≡◌, ℕ, suc, zero, ◌<◌, ◌≤◌, ◌^◌, T, List, [], ◌∷◌, length, map, refl, sym, ◌∙◌}
+use Rattle.std.proofs.Common.{◌≡◌, ℕ, suc, zero, ◌<◌, ◌^◌, T, List, [], ◌∷◌, length, map, refl, sym, ◌∙◌}
 use Rattle.std.proofs.Common.{ap, subst, arith, get_or}
 use Rattle.std.proofs.lemmas.List.{get_or-map, length-map, map-append}
 use Rattle.std.specs.Arc.{arc_value}
 use Rattle.std.specs.declared.sync.Arc.{Arc}
-use Rattle.std.specs.FinMap.{entries, entries_sorted, is_sorted, len}
+use Rattle.std.specs.FinMap.{entries, entries_sorted, is_sorted}
 use Rattle.std.specs.List.{AllByRecursion}
-use Rattle.cells.specs.Bounds.{AreWithin, IsDimension}
+use Rattle.cells.specs.Bounds.{AreWithin}
 use Rattle.cells.specs.Order.{Rise}
 use Rattle.cells.specs.declared.cell.Cell.{Cell}
 use Rattle.hyper_matrix.specs.Cells.{built_of, cell_total, entry_of}
-use Rattle.hyper_matrix.specs.Counts.{Counts, Place, built, count_sum, ewise_add, part, parts, place_cmp, total}
+use Rattle.hyper_matrix.specs.Counts.{Counts, Place, built, count_sum, ewise_add, part, parts, place_cmp}
 use Rattle.hyper_matrix.specs.Matrix.{Matrix, matrix}
 use Rattle.hyper_matrix.specs.Parts.{parts_below, shard_part}
 use Rattle.hyper_matrix.specs.Shared.{LiesWithin}
@@ -21,7 +21,6 @@ use Rattle.hyper_matrix.proofs.PartLaws.{built-entries, length-parts_below, part
 use Rattle.hyper_matrix.proofs.PlaceOrderLaws.{rises}
 use Rattle.layer_compaction.specs.Shared.{all_counts, content, values}
 use Rattle.layer_compaction.proofs.LayerLemmas.{content-append}
-use Rattle.merged_cells.specs.Within.{LieWithin}
 use Rattle.batch_store.specs.Pieces.{ArePieces, Cut, KeepsPieces, cut_in, whole_of}
 
 content_parts : (n k : ℕ) (m : Matrix) → content (all_counts (parts_below n k m)) ≡ parts m.counts n k
@@ -47,22 +46,9 @@ module _ (r c k : ℕ) (m : Matrix) (list : List Matrix) (rows : r ≡ m.rows) (
   pub cut_is : cut_in (length list) (whole_of r c list) ≡ cut_in k m
   cut_is = λ i. cut_in (many i) (cut_whole i)
 
-  pub cut_keeps : (n t : ℕ) → IsDimension m.rows → IsDimension m.cols → k ≤ 64 → n ≡ len m.counts → t ≡ total m.counts →
-      total m.counts < 2 ^ 64 → LieWithin m.rows m.cols m.counts → KeepsPieces r c n t list
-  cut_keeps n t dr dc few counted adds_up fits within = record {
-    rows = subst IsDimension (sym rows) dr;
-    cols = subst IsDimension (sym cols) dc;
-    some = omega (arith, many, some);
-    few = omega (arith, many, few);
-    pieces = is ∙ ap (λ (n : ℕ). parts_below n n m) (sym many)
-        ∙ ap (parts_below (length list) (length list)) (sym cut_whole);
-    entries = counted ∙ ap (λ (x : Matrix). len x.counts) (sym cut_whole);
-    total = adds_up ∙ ap (λ (x : Matrix). total x.counts) (sym cut_whole);
-    fits = omega (arith, adds_up, fits);
-    within = subst (λ (x : Matrix). LieWithin r c x.counts) (sym cut_whole)
-        (subst (λ (x : ℕ). LieWithin x c m.counts) (sym rows)
-        (subst (λ (x : ℕ). LieWithin m.rows x m.counts) (sym cols) within));
-  }
+  pub cut_pieces : ArePieces r c list
+  cut_pieces = is ∙ ap (λ (n : ℕ). parts_below n n m) (sym many)
+      ∙ ap (parts_below (length list) (length list)) (sym cut_whole)
 
 -- one piece
 pub piece_is : (s k : ℕ) (m p : Matrix) (list : List Matrix) → length list ≡ k → s < k →

@@ -57,10 +57,10 @@ nothing [] h = refl
 nothing (c ∷ cs) h = absurd cc
 
 module _ (k : ℕ) (e : Place × ℕ) (es : List (Place × ℕ)) where
-  entries_in : (s : ℕ) → e.0.0 % k ≡ s → part_entries s k (e ∷ es) ≡ e ∷ part_entries s k es
+  pub entries_in : (s : ℕ) → e.0.0 % k ≡ s → part_entries s k (e ∷ es) ≡ e ∷ part_entries s k es
   entries_in s here = ap (λ (b : Bool). cond b (e ∷ part_entries s k es) (part_entries s k es)) (eq-eqb _ _ here)
 
-  entries_out : (s : ℕ) → (e.0.0 % k ≡ s → ⊥) → part_entries s k (e ∷ es) ≡ part_entries s k es
+  pub entries_out : (s : ℕ) → (e.0.0 % k ≡ s → ⊥) → part_entries s k (e ∷ es) ≡ part_entries s k es
   entries_out s other = ap (λ (b : Bool). cond b (e ∷ part_entries s k es) (part_entries s k es)) (ne_eqb _ _ other)
 
   -- what is left of a piece that the first entry isn't in comes after it

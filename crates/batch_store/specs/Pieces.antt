@@ -3,9 +3,11 @@
 --     whole_of r c list   what matrices of these dimensions add up to
 --     ArePieces r c list  the list has the parts of that whole in as many shards as it is long, in order
 --     ArePartsOf m list   the list has the parts of m in as many shards as it is long, in order
+--     all_entries list    how many entries these have together
+--     AllLie list         the entries of each lie within its dimensions
 --     KeepsPieces         what pieces keep: that, the number of their entries and their total, and that each entry lies
 --                         within the dimensions
-use Rattle.std.specs.Prelude.{◌≡◌, ℕ, ◌<◌, ◌≤◌, ◌^◌, List, length, refl}
+use Rattle.std.specs.Prelude.{◌≡◌, ℕ, ◌+◌, ◌<◌, ◌≤◌, ◌^◌, List, [], ◌∷◌, length, refl}
 use Rattle.std.specs.FinMap.{len}
 use Rattle.merged_cells.specs.Within.{LieWithin}
 use Rattle.std.specs.Coded.{Coded, code_by, coded×, coded_ℕ}
@@ -33,6 +35,16 @@ ArePartsOf m list = list ≡ parts_below (length list) (length list) m
 
 abbrev pub ArePieces : ℕ → ℕ → List Matrix → Type 0
 ArePieces r c list = ArePartsOf (whole_of r c list) list
+
+-- how many entries matrices have together
+abbrev pub all_entries : List Matrix → ℕ
+all_entries [] = 0
+all_entries (m ∷ ms) = len m.counts + all_entries ms
+
+-- the entries of each lie within its dimensions
+abbrev pub AllLie : List Matrix → Type 0
+AllLie [] = Unit {0}
+AllLie (m ∷ ms) = LieWithin m.rows m.cols m.counts × AllLie ms
 
 pub record KeepsPieces (r c n t : ℕ) (list : List Matrix) : Type 0 where
   pub rows : IsDimension r

@@ -12,7 +12,7 @@ ghost use Rattle.batch_store.specs.BookFolds.{front_of, due_fold};
 
 use crate::batch::Batch;
 use crate::batch_sum::with_batches;
-use crate::fold_place::BasePlace;
+use crate::fold_place::{BasePlace, ShardBase};
 use crate::pieces::Pieces;
 use boxcar::tag::{Names, Tag};
 use hyper_matrix::Hyper;
@@ -82,13 +82,14 @@ impl Front {
         self.batches
     }
 
-    // The sum.
-    fn sum(&self, alloc: Global) -> Result<Hyper, AllocError>
-        ensures { IfOk result (λ m. m ≡ self.now.sum) }
+    // The sum, in as many pieces as the base.
+    fn pieces(&self, alloc: Global, made: &[ShardBase]) -> Result<Pieces, AllocError>
+        ensures { IfOk result (λ p. p.whole ≡ self.now.sum) }
     {
-        let base = self.base.sum(alloc)?;
-        let sum = with_batches(alloc, base, &self.batches)?;
-        Ok(sum)
+        let none = Hyper::new(alloc, self.rows, self.cols);
+        let added = with_batches(alloc, none, &self.batches)?;
+        let pieces = self.base.with_added(alloc, &added, made)?;
+        Ok(pieces)
     }
 }
 
@@ -163,15 +164,15 @@ impl BookFold {
         self.batches().len()
     }
 
-    /// Adds the base and the batches up, and puts the sum in its place, where the book finds it. It waits for nobody,
-    /// and nobody for it.
+    /// Adds the base and the batches up, piece by piece, and puts the sum in its place, where the book finds it. What was
+    /// made for a shard is its piece, where it has the same cells: so a cell is in memory once. It waits for nobody, and
+    /// nobody for it.
     ///
     /// # Errors
     ///
     /// A growth was refused. All is as before, and it can be called again.
-    pub fn run(&self, alloc: Global) -> Result<(), AllocError> {
-        let sum = self.front.sum(alloc)?;
-        let pieces = Pieces::cut(alloc, &sum, self.front.base.count())?;
+    pub fn run(&self, alloc: Global, made: &[ShardBase]) -> Result<(), AllocError> {
+        let pieces = self.front.pieces(alloc, made)?;
         let base = Arc::new(alloc, pieces)?;
         self.place.fill(base);
         Ok(())

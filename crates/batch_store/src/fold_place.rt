@@ -145,6 +145,13 @@ impl MadePlace {
     }
 }
 
+/// A base that was made for the shard of this number.
+#[derive(Drop)]
+pub struct ShardBase {
+    pub number: u64,
+    pub base: Arc<Hyper>,
+}
+
 // The numbers of what was handed down.
 struct OfLayer;
 
@@ -160,15 +167,17 @@ impl Names<Layer> for OfLayer {
 /// To drop it is to give the fold up: the shard stays as it is.
 #[derive(Drop)]
 pub struct ShardFold {
+    number: u64,
     below: Arc<Layer>,
     place: Arc<MadePlace>,
     ghost told: { arc_value place ≡ numbers_of (arc_value below) },
 }
 
 impl ShardFold {
-    /// Of this, with a new place.
+    /// Of this shard, with a new place.
     pub(crate) fn begin(
         alloc: Global,
+        number: u64,
         below: Arc<Layer>,
     ) -> Result<(Arc<MadePlace>, ShardFold), AllocError>
         ensures { IfOk result (λ r. arc_value r.0 ≡ numbers_of (arc_value below)) }
@@ -176,20 +185,31 @@ impl ShardFold {
         let tag = Tag::of::<Layer, OfLayer>(&below);
         let place = Arc::new(alloc, MadePlace::empty(&tag))?;
         let kept = Arc::try_clone(&place)?;
-        Ok((kept, ShardFold { below, place }))
+        Ok((
+            kept,
+            ShardFold {
+                number,
+                below,
+                place,
+            },
+        ))
     }
 
     /// Adds up what was handed down, and puts the sum in its place, where the shard finds it. Takes the time and memory
     /// of the sum, and 1 to 2 bytes and some nanoseconds for each of its entries for the filter. It waits for nobody,
-    /// and nobody for it.
+    /// and nobody for it. It answers the sum, shared.
     ///
     /// # Errors
     ///
     /// A growth was refused. All is as before, and it can be called again.
-    pub fn run(&self, alloc: Global) -> Result<(), AllocError> {
+    pub fn run(&self, alloc: Global) -> Result<ShardBase, AllocError> {
         let sum = self.below.sum(alloc)?;
         let made = MadeBase::of(alloc, sum)?;
+        let base = Arc::try_clone(&made.base)?;
         self.place.fill(made);
-        Ok(())
+        Ok(ShardBase {
+            number: self.number,
+            base,
+        })
     }
 }

@@ -36,6 +36,7 @@ mod pair;
 mod part;
 mod piece_cells;
 mod pieces;
+mod same;
 mod setup;
 mod shard;
 mod unfolded;
@@ -49,7 +50,7 @@ pub use book::{Book, ReleasedBatches};
 pub use book_fold::BookFold;
 pub use book_list::BookList;
 pub use fault::{BatchFault, CellsFault, GrowthFault, SetupFault, ShardFault};
-pub use fold_place::ShardFold;
+pub use fold_place::{ShardBase, ShardFold};
 pub use given_numbers::{GivenNumbers, with_dims};
 pub use growth_laws::{
     a_growth_has_one_outcome, grown_lists_keep_all, larger_setups_answer_the_same,
@@ -63,7 +64,9 @@ pub use laws::{
 pub use layer_cascade::Compaction;
 pub use limits::{MAX_BATCHES, MAX_CELLS, MAX_SHARDS};
 pub use misfit::{Misfit, Number};
+pub use piece_cells::PieceCells;
 pub use pieces::Pieces;
+pub use same::same_matrix;
 pub use setup::Setup;
 pub use shard::{Prepared, ReleasedRecord, Shard};
 pub use verdict::{Entry, Kept, Verdict};

@@ -15,7 +15,7 @@ matrices-preserved c =
     let m = c.deref.result.now in
     let within = c.matrices-test.true in
     let at : m ≡ get_or (values list) i m =
-        c.deref.ensures ∙ ap arc_value c.index-list-place.is ∙ sym (get_or-map arc_value list i x m within) in
+    c.deref.ensures ∙ ap arc_value c.index-list-place.is ∙ sym (get_or-map arc_value list i x m within) in
     began_next (values list) left i c.as_cells.result m (omega (arith, within, length-map list arc_value))
     (omega (arith, within, c.matrices.auto.left, c.requires)) at c.as_cells.ensures.rises c.as_cells.ensures.builds
     (c.matrices.invariant ∙ ap entries_each (sym (take-map arc_value i list)))
