@@ -12,6 +12,9 @@
 //! A book and a shard are folded beside what they take in: `begin_fold` seals what there is and gives away what the new
 //! base is made of, `run` makes it without the book or the shard, and `settle_fold` puts it in place, which can't be
 //! refused. Whoever folds an engine seals the book and all shards at one moment.
+//!
+//! A book's base is cut into pieces, one for each shard (`Pieces`). A piece and the base of its shard share their cells, so
+//! a folded cell is in memory once.
 #![tactic(auto)]
 
 mod batch;

@@ -144,6 +144,19 @@ impl Pieces {
         Ok(pieces)
     }
 
+    /// A matrix as one piece, which shares all cells with it. Constant time.
+    ///
+    /// # Errors
+    ///
+    /// A growth was refused.
+    pub fn one(alloc: Global, whole: &Hyper) -> Result<Arc<Pieces>, AllocError>
+        ensures { IfOk result (λ p. (arc_value p).whole ≡ whole.now) }
+    {
+        let cut = Pieces::cut(alloc, whole, 1)?;
+        let shared = Arc::new(alloc, cut)?;
+        Ok(shared)
+    }
+
     /// The sum of this and another matrix, in as many pieces. A piece that has the same cells as what was made for its shard
     /// is shared with that. It takes the time of a pass over both, and memory for a list of the other's cells and for the
     /// pieces, where it shares one as long as that is compared.

@@ -1,11 +1,9 @@
-use Rattle.std.proofs.Common.{◌≡◌, ◌+◌, ap, sym, ◌∙◌, arith}
-use Rattle.std.specs.Arc.{arc_value}
+use Rattle.std.proofs.Common.{ap, sym, ◌∙◌, arith}
 use Rattle.hyper_matrix.specs.Counts.{total}
 use Rattle.batch_store.specs.Accepted.{total_in}
 use Rattle.batch_store.specs.Batches.{entries_of, values}
 use Rattle.batch_store.specs.Books.{Listing, accepted_in, list_total}
 use Rattle.batch_store.specs.Pieces.{Cut}
-use Rattle.batch_store.specs.Verdicts.{total_of_entries}
 use Rattle.batch_store.proofs.VerdictLaws.{total_of-append}
 use Rattle.batch_store.proofs.growth.total_of.Goals as goal
 
