@@ -35,7 +35,12 @@ fn pieces_sum(base: &Pieces) -> Sum {
 pub type Size = (u64, u64, u64, Sum);
 
 pub fn size(book: &Book) -> Size {
-    (book.len(), book.folded(), book.total(), pieces_sum(book.base()))
+    (
+        book.len(),
+        book.folded(),
+        book.total(),
+        pieces_sum(book.base()),
+    )
 }
 
 const FIRST: Entry = Entry {
@@ -105,7 +110,11 @@ fn listed(rt: &impl Abort, alloc: Global, book: &Book) -> (usize, usize, usize, 
     let count = list.len();
     drop(list);
     let list = book.book_list(alloc).expect(rt, "memory");
-    let sizes = (list.folded.len(), list.batches.len(), pieces_sum(&list.base));
+    let sizes = (
+        list.folded.len(),
+        list.batches.len(),
+        pieces_sum(&list.base),
+    );
     drop(list);
     (count, sizes.0, sizes.1, sizes.2)
 }

@@ -1,4 +1,6 @@
 //! Matrices in pieces: their cells in order, one after the other, and sums of theirs.
+ghost use Rattle.std.specs.Prelude.{◌≡◌};
+
 use batch_store::{Pieces, ShardBase};
 use cells::Cell;
 use hyper_matrix::Hyper;
@@ -40,7 +42,9 @@ static SIX_ROWS: Cells = &[
     (4, 1, 5),
     (5, 0, 6),
 ];
+
 static ONE_ROW: Cells = &[(3, 0, 1), (3, 1, 0), (3, 7, 2)];
+
 static NONE: Cells = &[];
 
 #[test]
@@ -56,7 +60,9 @@ fn cells_of_pieces_come_by_row(rt: HostRuntime) {
 
 // What rows 0 and 3 of the sum have, and of row 1 alone.
 static FIRST_PIECE: Cells = &[(0, 5, 1), (3, 0, 1), (3, 1, 0), (3, 2, 4), (3, 7, 2)];
+
 static OTHER_PIECE: Cells = &[(1, 4, 2)];
+
 static BOTH: Cells = &[
     (0, 5, 1),
     (1, 4, 2),
