@@ -69,6 +69,22 @@ def folded_in(path):
     return rest, folded
 
 
+def past_in(path):
+    """What a snapshot without other batches says of folded ones: their entries, and the cells of their sum."""
+    with open(path, "rb") as file:
+        data = file.read()
+    return data[29 + 8 * data[28] + struct.calcsize(">BQQQQ29x") : -4]
+
+
+def past_of(batches):
+    """The same of batches of client 7, by number: entries, and cells by row and then by column."""
+    sums = sum_of(batches)
+    entries = [(7, number, len(sums_of(cells)), total_of([cells])) for number, cells in enumerate(batches)]
+    cells = [(*place, sums[place]) for place in sorted(sums)]
+    parts = [struct.pack(">Q", len(entries)), *(struct.pack(">4Q", *entry) for entry in entries)]
+    return b"".join([*parts, struct.pack(">Q", len(cells)), *(struct.pack(">3Q", *cell) for cell in cells)])
+
+
 def fed(server, batches, first=0):
     """Puts the batches from a number on, and compares what each is answered."""
     total = total_of(batches[:first])
@@ -175,6 +191,22 @@ def folds_when_asked(name, more, logged):
         with server.client() as hhm:
             check(f"{name}: folded again", hhm.fold(), BATCHES)
         server.stop(name, BATCHES, total_of(batches))
+
+
+def files_have_cells_by_row():
+    """What is folded over several shards stands in the file by row, and servers of other numbers of shards read it."""
+    batches = [cells_of(number) for number in range(20)]
+    path, wanted = os.path.join(servers.FOLDER, "by-row"), past_of(batches)
+    for shards in [3, 1, 64, 2]:
+        with Server([*SIZE[:-1], str(shards), "--fold-above", "0", "--snapshot", path]) as server:
+            if shards == 3:
+                fed(server, batches)
+            with server.client() as hhm:
+                check(f"{shards} shards: all are folded", hhm.fold(), len(batches))
+                check(f"{shards} shards: save", hhm.save(), len(batches))
+            asked(f"{shards} shards", server, batches)
+            server.stop(f"{shards} shards", len(batches), total_of(batches))
+        check(f"{shards} shards: what is folded in the file", past_in(path).hex(), wanted.hex())
 
 
 def folds_are_told_from_saves():
@@ -410,6 +442,7 @@ def main():
         folds_when_asked("asked", ["--fold-above", "0"], logged=False)
         folds_when_asked("asked-with-a-log", ["--fold-above", "0"], logged=True)
         folds_when_asked("asked-and-of-itself", ["--fold-above", "1000"], logged=True)
+        files_have_cells_by_row()
         folds_are_told_from_saves()
         folds_beside_others("beside", ["--fold-above", "0"], logged=False)
         folds_beside_others("beside-with-a-log", ["--fold-above", "500"], logged=True)

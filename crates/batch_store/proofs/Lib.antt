@@ -14,3 +14,8 @@ pub mod ListLaws
 pub mod VerdictMeaning
 pub mod BatchPartLaws
 pub mod GrowthLaws
+pub mod PieceLaws
+pub mod WalkLaws
+pub mod MergedLaws
+pub mod PieceSums
+pub mod SameMatrices

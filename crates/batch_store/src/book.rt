@@ -26,6 +26,7 @@ use crate::book_list::BookList;
 use crate::folded::{Folded, repeated};
 use crate::line::Line;
 use crate::pair::Pair;
+use crate::pieces::Pieces;
 use crate::setup::Setup;
 use crate::unfolded::Unfolded;
 use crate::verdict::{Entry, Kept, Verdict};
@@ -58,7 +59,7 @@ pub struct Book {
 /// held.
 #[derive(Drop)]
 pub struct ReleasedBatches {
-    base: Arc<Hyper>,
+    base: Arc<Pieces>,
     batches: Option<Arc<BookFold>>,
 }
 
@@ -103,7 +104,8 @@ impl Book {
         ensures setup { IfOk result (λ b. b.setup ≡ setup.now) }
         ensures empty { IfOk result (λ b. b.state ≡ unfolded []) }
     {
-        let base = Arc::new(alloc, Hyper::new(alloc, setup.rows(), setup.cols()))?;
+        let empty = Hyper::new(alloc, setup.rows(), setup.cols());
+        let base = Arc::new(alloc, Pieces::cut(alloc, &empty, setup.shards())?)?;
         Book::with_folded(rt, alloc, setup, base, &[])
     }
 
@@ -120,14 +122,14 @@ impl Book {
         rt: &impl RandomSource,
         alloc: Global,
         setup: &Setup,
-        base: Arc<Hyper>,
+        base: Arc<Pieces>,
         folded: &[Entry],
     ) -> Result<Book, AllocError>
-        requires accepted { AreAccepted setup.now (accepted (arc_value base).counts folded.now []) }
-        requires rows { (arc_value base).rows ≡ setup.now.rows }
-        requires cols { (arc_value base).cols ≡ setup.now.cols }
+        requires accepted { AreAccepted setup.now (accepted (arc_value base).whole.counts folded.now []) }
+        requires rows { (arc_value base).whole.rows ≡ setup.now.rows }
+        requires cols { (arc_value base).whole.cols ≡ setup.now.cols }
         ensures setup { IfOk result (λ b. b.setup ≡ setup.now) }
-        ensures state { IfOk result (λ b. b.state ≡ accepted (arc_value base).counts folded.now []) }
+        ensures state { IfOk result (λ b. b.state ≡ accepted (arc_value base).whole.counts folded.now []) }
     {
         // It bounds the total.
         let _limit = setup.limit();
@@ -202,8 +204,8 @@ impl Book {
     }
 
     /// The sum of the folded batches, shared. Constant time.
-    pub fn base(&self) -> &Arc<Hyper>
-        ensures { arc_value result.now ≡ matrix self.now.setup.rows self.now.setup.cols self.now.state.base }
+    pub fn base(&self) -> &Arc<Pieces>
+        ensures { (arc_value result.now).whole ≡ matrix self.now.setup.rows self.now.setup.cols self.now.state.base }
     {
         self.past.base()
     }
@@ -359,9 +361,9 @@ impl Book {
     /// # Errors
     ///
     /// None.
-    pub fn fold(&mut self, alloc: Global, base: Arc<Hyper>) -> Result<(), AllocError>
-        requires { arc_value base ≡ matrix self.old.setup.rows self.old.setup.cols (summed self.old.state) }
-        ensures ok { OnOk result (self.new.state ≡ folded_into (arc_value base).counts self.old.state) }
+    pub fn fold(&mut self, alloc: Global, base: Arc<Pieces>) -> Result<(), AllocError>
+        requires { (arc_value base).whole ≡ matrix self.old.setup.rows self.old.setup.cols (summed self.old.state) }
+        ensures ok { OnOk result (self.new.state ≡ folded_into (arc_value base).whole.counts self.old.state) }
         ensures err { OnErr result (self.new.state ≡ self.old.state) }
         ensures setup { self.new.setup ≡ self.old.setup }
     {

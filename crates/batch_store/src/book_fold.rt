@@ -12,7 +12,8 @@ ghost use Rattle.batch_store.specs.BookFolds.{front_of, due_fold};
 
 use crate::batch::Batch;
 use crate::batch_sum::with_batches;
-use crate::fold_place::BasePlace;
+use crate::fold_place::{BasePlace, ShardBase};
+use crate::pieces::Pieces;
 use boxcar::tag::{Names, Tag};
 use hyper_matrix::Hyper;
 use std::alloc::{AllocError, Global};
@@ -24,7 +25,7 @@ use std::sync::Arc;
 pub struct Front {
     rows: u64,
     cols: u64,
-    base: Arc<Hyper>,
+    base: Arc<Pieces>,
     batches: Vec<Arc<Batch>>,
 }
 
@@ -44,20 +45,20 @@ impl Model for Front {
     ghost coded = { coded_front };
 
     ghost view = { λ f. front_of (values f.batches.items) (matrix f.rows f.cols
-        (ewise_add (arc_value f.base).counts (list_sum (values f.batches.items)))) };
+        (ewise_add (arc_value f.base).whole.counts (list_sum (values f.batches.items)))) };
 
-    ghost invariant = { λ f. IsDimension f.rows × IsDimension f.cols × ((arc_value f.base).rows ≡ f.rows)
-        × ((arc_value f.base).cols ≡ f.cols) × HaveDims f.rows f.cols (values f.batches.items) };
+    ghost invariant = { λ f. IsDimension f.rows × IsDimension f.cols × ((arc_value f.base).whole.rows ≡ f.rows)
+        × ((arc_value f.base).whole.cols ≡ f.cols) × HaveDims f.rows f.cols (values f.batches.items) };
 }
 
 impl Front {
-    pub(crate) fn new(rows: u64, cols: u64, base: Arc<Hyper>, batches: Vec<Arc<Batch>>) -> Front
+    pub(crate) fn new(rows: u64, cols: u64, base: Arc<Pieces>, batches: Vec<Arc<Batch>>) -> Front
         requires dims { IsDimension rows × IsDimension cols }
-        requires rows { (arc_value base).rows ≡ rows }
-        requires cols { (arc_value base).cols ≡ cols }
+        requires rows { (arc_value base).whole.rows ≡ rows }
+        requires cols { (arc_value base).whole.cols ≡ cols }
         requires all { HaveDims rows cols (values batches.items) }
         ensures { result ≡ front_of (values batches.items)
-            (matrix rows cols (ewise_add (arc_value base).counts (list_sum (values batches.items)))) }
+            (matrix rows cols (ewise_add (arc_value base).whole.counts (list_sum (values batches.items)))) }
     {
         Front {
             rows,
@@ -81,13 +82,14 @@ impl Front {
         self.batches
     }
 
-    // The sum.
-    fn sum(&self, alloc: Global) -> Result<Hyper, AllocError>
-        ensures { IfOk result (λ m. m ≡ self.now.sum) }
+    // The sum, in as many pieces as the base.
+    fn pieces(&self, alloc: Global, made: &[ShardBase]) -> Result<Pieces, AllocError>
+        ensures { IfOk result (λ p. p.whole ≡ self.now.sum) }
     {
-        let base = self.base.copy(alloc)?;
-        let sum = with_batches(alloc, base, &self.batches)?;
-        Ok(sum)
+        let none = Hyper::new(alloc, self.rows, self.cols);
+        let added = with_batches(alloc, none, &self.batches)?;
+        let pieces = self.base.with_added(alloc, &added, made)?;
+        Ok(pieces)
     }
 }
 
@@ -149,8 +151,8 @@ impl BookFold {
     }
 
     // The base with the batches, if it was made. It waits for nobody.
-    pub(crate) fn base(&self) -> Option<&Arc<Hyper>>
-        ensures { IfSome result (λ base. numbers_of (arc_value base.now) ≡ self.now.told) }
+    pub(crate) fn base(&self) -> Option<&Arc<Pieces>>
+        ensures { IfSome result (λ base. numbers_of (arc_value base.now).whole ≡ self.now.told) }
     {
         self.place.base()
     }
@@ -162,15 +164,16 @@ impl BookFold {
         self.batches().len()
     }
 
-    /// Adds the base and the batches up, and puts the sum in its place, where the book finds it. It waits for nobody,
-    /// and nobody for it.
+    /// Adds the base and the batches up, piece by piece, and puts the sum in its place, where the book finds it. What was
+    /// made for a shard is its piece, where it has the same cells: so a cell is in memory once. It waits for nobody, and
+    /// nobody for it.
     ///
     /// # Errors
     ///
     /// A growth was refused. All is as before, and it can be called again.
-    pub fn run(&self, alloc: Global) -> Result<(), AllocError> {
-        let sum = self.front.sum(alloc)?;
-        let base = Arc::new(alloc, sum)?;
+    pub fn run(&self, alloc: Global, made: &[ShardBase]) -> Result<(), AllocError> {
+        let pieces = self.front.pieces(alloc, made)?;
+        let base = Arc::new(alloc, pieces)?;
         self.place.fill(base);
         Ok(())
     }

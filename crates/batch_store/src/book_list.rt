@@ -1,8 +1,8 @@
 //! All that a book has accepted, as it is handed out for a snapshot.
 
 use crate::batch::Batch;
+use crate::pieces::Pieces;
 use crate::verdict::Entry;
-use hyper_matrix::Hyper;
 use std::marker::Model;
 use std::sync::Arc;
 
@@ -14,7 +14,7 @@ use std::sync::Arc;
 #[derive(Drop)]
 pub struct BookList {
     /// The sum of the folded batches.
-    pub base: Arc<Hyper>,
+    pub base: Arc<Pieces>,
     /// Their entries, in the order of their acceptance.
     pub folded: Vec<Entry>,
     /// The batches behind them.
@@ -31,7 +31,7 @@ impl Model for BookList {
 
     ghost coded = { coded_listing };
 
-    ghost view = { λ a. listing (arc_value a.base) a.folded.items (values a.batches.items) };
+    ghost view = { λ a. listing (arc_value a.base).whole a.folded.items (values a.batches.items) };
 
-    ghost invariant = { λ a. IsBase (arc_value a.base).counts a.folded.items };
+    ghost invariant = { λ a. IsBase (arc_value a.base).whole.counts a.folded.items };
 }

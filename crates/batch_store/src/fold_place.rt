@@ -6,6 +6,7 @@ ghost use Rattle.std.specs.Prelude.{◌≡◌, IfOk, IfSome};
 ghost use Rattle.std.specs.Arc.{arc_value};
 ghost use Rattle.layer_compaction.specs.Due.{numbers_of};
 
+use crate::pieces::Pieces;
 use boxcar::slot::{OnceSlot, SlotRule};
 use boxcar::tag::{Names, Tag};
 use hyper_matrix::Hyper;
@@ -48,12 +49,12 @@ impl MadeBase {
 /// What is put into a slot is the matrix that the slot's tag has the numbers of.
 pub struct SameBase;
 
-impl SlotRule<Arc<Hyper>> for SameBase {
+impl SlotRule<Arc<Pieces>> for SameBase {
     ghost use Rattle.std.specs.Prelude.{◌≡◌};
     ghost use Rattle.std.specs.Arc.{arc_value};
     ghost use Rattle.layer_compaction.specs.Due.{numbers_of};
 
-    ghost holds = { λ tag base. numbers_of (arc_value base) ≡ tag };
+    ghost holds = { λ tag base. numbers_of (arc_value base).whole ≡ tag };
 }
 
 impl SlotRule<MadeBase> for SameBase {
@@ -68,7 +69,7 @@ impl SlotRule<MadeBase> for SameBase {
 /// A place for the book's base, which is filled once. Contracts see the base's numbers.
 #[derive(Drop)]
 pub struct BasePlace {
-    base: OnceSlot<Arc<Hyper>, SameBase>,
+    base: OnceSlot<Arc<Pieces>, SameBase>,
 }
 
 impl Model for BasePlace {
@@ -89,15 +90,15 @@ impl BasePlace {
     }
 
     /// The base, if it was made. It waits for nobody.
-    pub(crate) fn base(&self) -> Option<&Arc<Hyper>>
-        ensures { IfSome result (λ base. numbers_of (arc_value base.now) ≡ self.now) }
+    pub(crate) fn base(&self) -> Option<&Arc<Pieces>>
+        ensures { IfSome result (λ base. numbers_of (arc_value base.now).whole ≡ self.now) }
     {
         self.base.get()
     }
 
     /// Puts the base here, unless another has. It waits for nobody.
-    pub(crate) fn fill(&self, base: Arc<Hyper>)
-        requires { numbers_of (arc_value base) ≡ self.now }
+    pub(crate) fn fill(&self, base: Arc<Pieces>)
+        requires { numbers_of (arc_value base).whole ≡ self.now }
     {
         let _ = self.base.set(base);
     }
@@ -144,6 +145,13 @@ impl MadePlace {
     }
 }
 
+/// A base that was made for the shard of this number.
+#[derive(Drop)]
+pub struct ShardBase {
+    pub number: u64,
+    pub base: Arc<Hyper>,
+}
+
 // The numbers of what was handed down.
 struct OfLayer;
 
@@ -159,15 +167,17 @@ impl Names<Layer> for OfLayer {
 /// To drop it is to give the fold up: the shard stays as it is.
 #[derive(Drop)]
 pub struct ShardFold {
+    number: u64,
     below: Arc<Layer>,
     place: Arc<MadePlace>,
     ghost told: { arc_value place ≡ numbers_of (arc_value below) },
 }
 
 impl ShardFold {
-    /// Of this, with a new place.
+    /// Of this shard, with a new place.
     pub(crate) fn begin(
         alloc: Global,
+        number: u64,
         below: Arc<Layer>,
     ) -> Result<(Arc<MadePlace>, ShardFold), AllocError>
         ensures { IfOk result (λ r. arc_value r.0 ≡ numbers_of (arc_value below)) }
@@ -175,20 +185,31 @@ impl ShardFold {
         let tag = Tag::of::<Layer, OfLayer>(&below);
         let place = Arc::new(alloc, MadePlace::empty(&tag))?;
         let kept = Arc::try_clone(&place)?;
-        Ok((kept, ShardFold { below, place }))
+        Ok((
+            kept,
+            ShardFold {
+                number,
+                below,
+                place,
+            },
+        ))
     }
 
     /// Adds up what was handed down, and puts the sum in its place, where the shard finds it. Takes the time and memory
     /// of the sum, and 1 to 2 bytes and some nanoseconds for each of its entries for the filter. It waits for nobody,
-    /// and nobody for it.
+    /// and nobody for it. It answers the sum, shared.
     ///
     /// # Errors
     ///
     /// A growth was refused. All is as before, and it can be called again.
-    pub fn run(&self, alloc: Global) -> Result<(), AllocError> {
+    pub fn run(&self, alloc: Global) -> Result<ShardBase, AllocError> {
         let sum = self.below.sum(alloc)?;
         let made = MadeBase::of(alloc, sum)?;
+        let base = Arc::try_clone(&made.base)?;
         self.place.fill(made);
-        Ok(())
+        Ok(ShardBase {
+            number: self.number,
+            base,
+        })
     }
 }

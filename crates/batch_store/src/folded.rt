@@ -12,8 +12,8 @@ ghost use Rattle.batch_store.specs.Verdicts.{repeat_of, same_pair, total_of_entr
 
 use crate::batch::Batch;
 use crate::pair::Pair;
+use crate::pieces::Pieces;
 use crate::verdict::{Entry, Kept, Verdict};
-use hyper_matrix::Hyper;
 use indexmap::IndexMap;
 use std::alloc::{AllocError, Global};
 use std::collections::hash_map::RandomState;
@@ -36,7 +36,7 @@ pub struct FoldedLine {
 /// the number of its cells.
 #[derive(Drop)]
 pub struct Folded {
-    base: Arc<Hyper>,
+    base: Arc<Pieces>,
     total: u64,
     lines: IndexMap<Pair, FoldedLine, RandomState>,
 }
@@ -50,7 +50,7 @@ impl Model for Folded {
 
     ghost coded = { coded_fold };
 
-    ghost view = { λ a. fold_of (arc_value a.base) (entries_under a.lines.entries) (spare a.lines) };
+    ghost view = { λ a. fold_of (arc_value a.base).whole (entries_under a.lines.entries) (spare a.lines) };
 
     ghost invariant = { λ a. KeepsFold a.total a.lines.entries };
 }
@@ -86,9 +86,9 @@ impl Folded {
     pub fn new(
         rt: &impl RandomSource,
         alloc: Global,
-        base: Arc<Hyper>,
+        base: Arc<Pieces>,
     ) -> Result<Folded, AllocError>
-        ensures base { IfOk result (λ f. f.base ≡ arc_value base) }
+        ensures base { IfOk result (λ f. f.base ≡ (arc_value base).whole) }
         ensures none { IfOk result (λ f. f.entries ≡ []) }
     {
         match RandomState::new(rt) {
@@ -184,15 +184,15 @@ impl Folded {
     }
 
     /// The base, which is shared.
-    pub fn base(&self) -> &Arc<Hyper>
-        ensures { arc_value result.now ≡ self.now.base }
+    pub fn base(&self) -> &Arc<Pieces>
+        ensures { (arc_value result.now).whole ≡ self.now.base }
     {
         &self.base
     }
 
     /// Puts another base in place of this one, which is given back.
-    pub fn set_base(&mut self, base: Arc<Hyper>) -> Arc<Hyper>
-        ensures base { self.new.base ≡ arc_value base }
+    pub fn set_base(&mut self, base: Arc<Pieces>) -> Arc<Pieces>
+        ensures base { self.new.base ≡ (arc_value base).whole }
         ensures entries { self.new.entries ≡ self.old.entries }
     {
         mem::replace(&mut self.base, base)

@@ -12,8 +12,8 @@ use crate::batch::Batch;
 use crate::book_list::BookList;
 use crate::fault::GrowthFault;
 use crate::misfit::{Misfit, Number};
+use crate::pieces::Pieces;
 use crate::setup::Setup;
-use hyper_matrix::Hyper;
 use std::alloc::{AllocError, Global};
 use std::sync::Arc;
 
@@ -43,14 +43,16 @@ impl Batch {
 }
 
 // A base in a matrix of the setup's dimensions.
-fn widened_base(alloc: Global, setup: &Setup, base: &Hyper) -> Result<Arc<Hyper>, AllocError>
-    requires rows { base.now.rows ≤ setup.now.rows }
-    requires cols { base.now.cols ≤ setup.now.cols }
-    ensures { IfOk result (λ m. arc_value m ≡ matrix setup.now.rows setup.now.cols base.now.counts) }
+fn widened_base(alloc: Global, setup: &Setup, base: &Pieces) -> Result<Arc<Pieces>, AllocError>
+    requires rows { base.now.whole.rows ≤ setup.now.rows }
+    requires cols { base.now.whole.cols ≤ setup.now.cols }
+    ensures { IfOk result (λ p.
+        (arc_value p).whole ≡ matrix setup.now.rows setup.now.cols base.now.whole.counts) }
 {
-    let same = base.copy(alloc)?;
+    let same = base.sum(alloc)?;
     let wide = same.widened(setup.rows(), setup.cols());
-    let shared = Arc::new(alloc, wide)?;
+    let pieces = Pieces::cut(alloc, &wide, base.count())?;
+    let shared = Arc::new(alloc, pieces)?;
     Ok(shared)
 }
 

@@ -12,6 +12,9 @@
 //! A book and a shard are folded beside what they take in: `begin_fold` seals what there is and gives away what the new
 //! base is made of, `run` makes it without the book or the shard, and `settle_fold` puts it in place, which can't be
 //! refused. Whoever folds an engine seals the book and all shards at one moment.
+//!
+//! A book's base is cut into pieces, one for each shard (`Pieces`). A piece and the base of its shard share their cells, so
+//! a folded cell is in memory once.
 #![tactic(auto)]
 
 mod batch;
@@ -34,6 +37,9 @@ mod listed;
 mod misfit;
 mod pair;
 mod part;
+mod piece_cells;
+mod pieces;
+mod same;
 mod setup;
 mod shard;
 mod unfolded;
@@ -47,7 +53,7 @@ pub use book::{Book, ReleasedBatches};
 pub use book_fold::BookFold;
 pub use book_list::BookList;
 pub use fault::{BatchFault, CellsFault, GrowthFault, SetupFault, ShardFault};
-pub use fold_place::ShardFold;
+pub use fold_place::{ShardBase, ShardFold};
 pub use given_numbers::{GivenNumbers, with_dims};
 pub use growth_laws::{
     a_growth_has_one_outcome, grown_lists_keep_all, larger_setups_answer_the_same,
@@ -61,6 +67,9 @@ pub use laws::{
 pub use layer_cascade::Compaction;
 pub use limits::{MAX_BATCHES, MAX_CELLS, MAX_SHARDS};
 pub use misfit::{Misfit, Number};
+pub use piece_cells::PieceCells;
+pub use pieces::Pieces;
+pub use same::same_matrix;
 pub use setup::Setup;
 pub use shard::{Prepared, ReleasedRecord, Shard};
 pub use verdict::{Entry, Kept, Verdict};

@@ -547,7 +547,7 @@ impl Shard {
         // Nothing is sealed, so nothing is due.
         self.due = None;
         let below = self.layers.hand_down(alloc)?;
-        let (place, fold) = ShardFold::begin(alloc, below)?;
+        let (place, fold) = ShardFold::begin(alloc, self.number, below)?;
         mem::swap(&mut self.sealed, &mut self.held);
         self.due = Some(place);
         Ok(Some(fold))

@@ -12,7 +12,7 @@ ghost use Rattle.batch_store.specs.BookFolds.{DueFold, IsBookDue, rest_list, due
 
 use crate::batch::Batch;
 use crate::book_fold::{BookFold, Front};
-use hyper_matrix::Hyper;
+use crate::pieces::Pieces;
 use std::alloc::{AllocError, Global};
 use std::marker::Model;
 use std::mem;
@@ -151,15 +151,15 @@ impl Unfolded {
         most: u64,
         rows: u64,
         cols: u64,
-        base: Arc<Hyper>,
+        base: Arc<Pieces>,
     ) -> Result<Option<Arc<BookFold>>, AllocError>
         requires dims { IsDimension rows × IsDimension cols }
-        requires rows { (arc_value base).rows ≡ rows }
-        requires cols { (arc_value base).cols ≡ cols }
+        requires rows { (arc_value base).whole.rows ≡ rows }
+        requires cols { (arc_value base).whole.cols ≡ cols }
         requires all { HaveDims rows cols (rest_list self.old) }
-        requires due { IsBookDue (arc_value base) self.old.due }
+        requires due { IsBookDue (arc_value base).whole self.old.due }
         ensures same { rest_list self.new ≡ rest_list self.old }
-        ensures due { IsBookDue (arc_value base) self.new.due }
+        ensures due { IsBookDue (arc_value base).whole self.new.due }
     {
         if self.sealed.is_some() || self.held.is_empty() || self.held.len() as u64 > most {
             return Ok(None);
@@ -199,9 +199,9 @@ impl Unfolded {
     }
 
     /// The base with the batches of the fold that is due, where one is and its base was made. It takes no memory.
-    pub fn made_base(&self) -> Option<Arc<Hyper>>
+    pub fn made_base(&self) -> Option<Arc<Pieces>>
         ensures told { IfSome result (λ base. (d : DueFold) × (self.now.due ≡ Some d)
-            × (numbers_of (arc_value base) ≡ d.told)) }
+            × (numbers_of (arc_value base).whole ≡ d.told)) }
     {
         match &self.sealed {
             Some(fold) => {

@@ -2,7 +2,7 @@
 ghost use Rattle.std.specs.Prelude.{◌≡◌, ◌↔◌, ◌<◌, None, Some, OnOk, OnErr, IsTrue};
 ghost use Rattle.locked_engine.specs.Folders.{nothing_sealed, IsMade};
 
-use batch_store::{BookFold, ShardFold};
+use batch_store::{BookFold, ShardBase, ShardFold};
 use std::alloc::{AllocError, Global};
 use std::marker::Model;
 use std::sync::Arc;
@@ -21,6 +21,8 @@ pub struct Folder {
     // What is left to be added up, of the shards and of the book.
     shards: Vec<ShardFold>,
     book: Option<Arc<BookFold>>,
+    // The shards' bases that were made, which are to be the pieces of the book's.
+    made: Vec<ShardBase>,
 }
 
 impl Model for Folder {
@@ -36,6 +38,13 @@ impl Model for Folder {
     ghost invariant = { λ f. Leaves f.place (vec_len f.shards) f.book };
 }
 
+// Makes the sum of a shard, and appends its base to those that were made. Where a growth was refused, none is appended.
+fn push_made(alloc: Global, fold: &ShardFold, made: &mut Vec<ShardBase>) -> Result<(), AllocError> {
+    made.reserve(1)?;
+    made.push_reserved(fold.run(alloc)?);
+    Ok(())
+}
+
 impl Folder {
     // One that has sealed nothing. It takes no memory.
     pub(crate) fn new(alloc: Global) -> Folder
@@ -45,6 +54,7 @@ impl Folder {
             place: None,
             shards: Vec::new(alloc),
             book: None,
+            made: Vec::new(alloc),
         }
     }
 
@@ -82,9 +92,9 @@ impl Folder {
         self.book = None;
     }
 
-    /// Makes the sums that are left: of each shard's layers, and of the book's base with the batches. Each is put where
-    /// its shard or the book finds it, and what it was made of is let go of. It takes the time and memory of sums of all
-    /// that the engine holds, waits for nobody, and nobody waits for it.
+    /// Makes the sums that are left: of each shard's layers, and of the book's base with the batches, whose pieces are those
+    /// of the shards. Each is put where its shard or the book finds it, and what it was made of is let go of. It takes the
+    /// time of two sums of all that the engine holds and the memory of one, waits for nobody, and nobody waits for it.
     ///
     /// # Errors
     ///
@@ -95,14 +105,15 @@ impl Folder {
         ensures err { OnErr result (0 < self.new.left) }
     {
         while let Some(fold) = self.shards.pop() {
-            if fold.run(alloc).is_err() {
+            if push_made(alloc, &fold, &mut self.made).is_err() {
                 self.shards.push_reserved(fold);
                 return Err(AllocError);
             }
         }
         if let Some(fold) = &self.book {
-            fold.run(alloc)?;
+            fold.run(alloc, &self.made)?;
         }
+        self.made.clear();
         self.book = None;
         Ok(())
     }

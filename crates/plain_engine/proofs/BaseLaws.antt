@@ -13,7 +13,7 @@ use Rattle.batch_store.specs.Shards.{Holding}
 use Rattle.plain_engine.specs.Standing.{AreTogether}
 use Rattle.plain_engine.specs.Known.{AreBased}
 use Rattle.plain_engine.specs.Bases.{AreNumbered, bases_of, AreParts, AreSpent}
-use Rattle.plain_engine.proofs.SameLaws.{same_counts_by_entries}
+use Rattle.batch_store.proofs.SameMatrices.{same_counts_by_entries}
 
 module _ (k : ℕ) (e : Place × ℕ) (es : List (Place × ℕ)) where
   entries_in : (s : ℕ) → e.0.0 % k ≡ s → part_entries s k (e ∷ es) ≡ e ∷ part_entries s k es

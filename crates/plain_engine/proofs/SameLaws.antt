@@ -3,10 +3,6 @@ use Rattle.std.proofs.Common.{◌≡◌, ℕ, zero, suc, ◌<◌, ◌≤◌, Boo
 use Rattle.std.proofs.Common.{◌+◌, ◌-◌, None, drop, Some, sym, ◌∙◌, ap, arith, append-nil}
 use Rattle.std.specs.Prelude.{slice_get}
 use Rattle.std.proofs.lemmas.List.Elements.{filter-append}
-use Rattle.std.specs.FinMap.{entries}
-use Rattle.hyper_matrix.specs.Counts.{Counts, built}
-use Rattle.hyper_matrix.specs.Matrix.{Matrix}
-use Rattle.hyper_matrix.proofs.PartLaws.{built-entries}
 use Rattle.std.proofs.lemmas.Bool.{le-ltb}
 use Rattle.batch_store.specs.Accepted.{Accepted, batch_at}
 use Rattle.batch_store.specs.Batches.{Submission}
@@ -71,15 +67,6 @@ module _ (s k : ℕ) (list : List Submission) (i : ℕ) (b : Submission) (at : s
   next_skipped held n so_far other =
       so_far ∙ sym (concerned_more ∙ ap (λ (x : Bool). concerned s k (take i list) ++ cond x (b ∷ []) []) other
       ∙ append-nil (concerned s k (take i list)))
-
--- maps of the same entries are the same, and so are matrices of the same dimensions
-pub same_counts_by_entries : (a b : Counts) → entries a ≡ entries b → a ≡ b
-same_counts_by_entries a b cells = sym (built-entries a) ∙ ap built cells ∙ built-entries b
-
-pub same_matrices : (a b : Matrix) → a.rows ≡ b.rows → a.cols ≡ b.cols → entries a.counts ≡ entries b.counts → a ≡ b
-same_matrices a b rows cols cells =
-    let counts = same_counts_by_entries a.counts b.counts cells in
-    λ i. record { rows = rows i; cols = cols i; counts = counts i }
 
 pub within_list : {A : Type 0} (xs : List A) (n : ℕ) (x : A) → slice_get xs n ≡ Some x → n < length xs
 within_list [] n x h = absurd cc

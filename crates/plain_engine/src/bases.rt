@@ -5,7 +5,7 @@ ghost use Rattle.std.specs.FinMap.{entries};
 ghost use Rattle.plain_engine.specs.Bases.{AreNumbered, bases_of, AreParts, AreSpent};
 ghost use Rattle.plain_engine.specs.Known.{AreBased};
 
-use batch_store::{Book, MAX_SHARDS, Shard};
+use batch_store::{Book, MAX_SHARDS, Pieces, Shard};
 use hyper_matrix::{Cells, Hyper, shard_of};
 use std::array;
 
@@ -23,12 +23,12 @@ fn are_spent(left: &mut [Cells<'_>]) -> bool
 
 // Whether each of these has exactly the cells of its shard, of as many shards as these: each cell of the whole comes next
 // in its row's shard, and at the end none is left.
-fn are_parts(left: &mut [Cells<'_>], whole: &Hyper) -> bool
+fn are_parts(left: &mut [Cells<'_>], whole: &Pieces) -> bool
     requires { 0 < length left.old }
-    ensures { IsTrue result ↔ AreParts 0 (length left.old) left.old (entries whole.now.counts) }
+    ensures { IsTrue result ↔ AreParts 0 (length left.old) left.old (entries whole.now.whole.counts) }
 {
     let k = left.len() as u64;
-    'cells: for cell in whole.iter() {
+    'cells: for cell in whole.cells() {
         match left[shard_of(cell.row, k) as usize].next() {
             Some(other) => {
                 if other != cell {
@@ -58,10 +58,10 @@ pub fn bases_follow<'a>(shards: &'a [Shard], book: &'a Book) -> bool
     requires numbered { AreNumbered 0 shards.now }
     ensures { IsTrue result ↔ AreBased book.now.state (length shards.now) shards.now }
 {
-    let whole: &Hyper = book.base();
+    let first: &Hyper = shards[0].base();
     // A place for each shard, and more that aren't read.
-    let mut places: [Cells<'a>; MAX_SHARDS as usize] = array::from_fn(|_| whole.iter());
+    let mut places: [Cells<'a>; MAX_SHARDS as usize] = array::from_fn(|_| first.iter());
     let left = &mut places[..shards.len()];
     start_each(left, shards);
-    are_parts(left, whole)
+    are_parts(left, book.base())
 }

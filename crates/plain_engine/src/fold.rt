@@ -6,19 +6,19 @@ ghost use Rattle.hyper_matrix.specs.Matrix.{matrix};
 ghost use Rattle.batch_store.specs.declared.verdict.Entry.{Entry};
 ghost use Rattle.batch_store.specs.Accepted.{accepted, folded_into, summed};
 ghost use Rattle.batch_store.specs.Books.{AreAccepted, listed_in};
+ghost use Rattle.batch_store.specs.Pieces.{cut_in};
 ghost use Rattle.plain_engine.specs.Folds.{AllHoldParts, shard_folded};
 ghost use Rattle.plain_engine.specs.Puts.{AreAllHeld};
 ghost use Rattle.plain_engine.specs.Standing.{Stand, bare, bare_shard};
 
 use crate::engine::PlainEngine;
-use batch_store::{Book, BookList, Entry, Setup, Shard};
-use hyper_matrix::Hyper;
+use batch_store::{Book, BookList, Entry, Pieces, Setup, Shard};
 use std::alloc::{AllocError, Global};
 use std::random::RandomSource;
 use std::sync::Arc;
 
-// Cuts the base for each of these shards, of k, folds the book, and gives each its part on the way back: every growth
-// stands before the book folds, and nothing fails behind it. Where a growth was refused, what the shards and the book
+// Shares a piece of the base for each of these shards, of k, folds the book, and gives each its piece on the way back:
+// all that can fail is done before the book folds, and nothing fails after it. Where a growth was refused, what the shards and the book
 // hold is as before.
 //
 // It calls itself once for each shard, of at most 64.
@@ -27,9 +27,9 @@ fn fold_from(
     alloc: Global,
     k: u64,
     book: &mut Book,
-    base: Arc<Hyper>,
+    base: Arc<Pieces>,
 ) -> Result<(), AllocError>
-    requires base { arc_value base ≡ matrix book.old.setup.rows book.old.setup.cols (summed book.old.state) }
+    requires base { arc_value base ≡ cut_in k (matrix book.old.setup.rows book.old.setup.cols (summed book.old.state)) }
     requires k { k ≡ book.old.setup.shards }
     requires parts { AllHoldParts book.old.setup (summed book.old.state) shards.old }
     ensures setup { book.new.setup ≡ book.old.setup }
@@ -44,35 +44,32 @@ fn fold_from(
     };
     // A call on a shard tells what it keeps, here and after it has its base.
     let s = first.number();
-    let part = base.part(alloc, s, k)?;
-    let own = Arc::new(alloc, part)?;
+    let own = Arc::try_clone(base.piece(s))?;
     fold_from(rest, alloc, k, book, base)?;
     first.rebase(own);
     let _held = first.number();
     Ok(())
 }
 
-// A shard for each number, with its part of the base.
+// A shard for each number, with its piece of the base, which it shares.
 fn based_shards(
     rt: &impl RandomSource,
     alloc: Global,
     setup: &Setup,
-    base: &Hyper,
+    base: &Pieces,
 ) -> Result<Vec<Shard>, AllocError>
-    requires rows { base.now.rows ≡ setup.now.rows }
-    requires cols { base.now.cols ≡ setup.now.cols }
-    requires within { total base.now.counts ≤ setup.now.limit }
+    requires count { base.now.count ≡ setup.now.shards }
+    requires rows { base.now.whole.rows ≡ setup.now.rows }
+    requires cols { base.now.whole.cols ≡ setup.now.cols }
+    requires within { total base.now.whole.counts ≤ setup.now.limit }
     ensures count { IfOk result (λ v. length v.items ≡ setup.now.shards) }
     ensures stand { IfOk result (λ v. (folded : List Entry) →
-        Stand setup.now (accepted base.now.counts folded []) 0 v.items) }
+        Stand setup.now (accepted base.now.whole.counts folded []) 0 v.items) }
 {
     let k = setup.shards();
-    let parts = base.parts(alloc, k)?;
     let mut shards = Vec::with_capacity(alloc, k as usize)?;
     'make: for s in 0..k {
-        // The same blocks: those of `parts` are let go of behind the loop.
-        let part = parts[s as usize].copy(alloc)?;
-        let own = Arc::new(alloc, part)?;
+        let own = Arc::try_clone(base.piece(s))?;
         let shard = Shard::with_base(rt, alloc, setup, s, own)?;
         // Any call on a shard tells what it keeps.
         let _held = shard.number();
@@ -131,31 +128,32 @@ impl PlainEngine {
         ensures err { OnErr result (bare self.new ≡ bare self.old) }
     {
         let sum = self.export(alloc)?;
-        let base = Arc::new(alloc, sum)?;
         let k = self.setup.shards();
+        let pieces = Pieces::cut(alloc, &sum, k)?;
+        let base = Arc::new(alloc, pieces)?;
         let answer = fold_from(self.shards.as_mut_slice(), alloc, k, &mut self.book, base);
         // Any call on the book tells what it keeps.
         let _accepted = self.book.len();
         answer
     }
 
-    // An engine of folded batches alone, which shares the base.
+    // An engine of folded batches alone, which shares the base, where that is in as many pieces as there are shards.
     pub(crate) fn with_folded(
         rt: &impl RandomSource,
         alloc: Global,
         setup: Setup,
-        base: &Arc<Hyper>,
+        base: &Arc<Pieces>,
         folded: &[Entry],
     ) -> Result<PlainEngine, AllocError>
-        requires accepted { AreAccepted setup (accepted (arc_value base.now).counts folded.now []) }
-        requires rows { (arc_value base.now).rows ≡ setup.rows }
-        requires cols { (arc_value base.now).cols ≡ setup.cols }
+        requires accepted { AreAccepted setup (accepted (arc_value base.now).whole.counts folded.now []) }
+        requires rows { (arc_value base.now).whole.rows ≡ setup.rows }
+        requires cols { (arc_value base.now).whole.cols ≡ setup.cols }
         ensures setup { IfOk result (λ e. e.setup ≡ setup) }
-        ensures state { IfOk result (λ e. e.book.state ≡ accepted (arc_value base.now).counts folded.now []) }
+        ensures state { IfOk result (λ e. e.book.state ≡ accepted (arc_value base.now).whole.counts folded.now []) }
     {
-        let shards = based_shards(rt, alloc, &setup, base)?;
-        let shared = Arc::try_clone(base)?;
-        let book = Book::with_folded(rt, alloc, &setup, shared, folded)?;
+        let own = Pieces::in_pieces(alloc, base, setup.shards())?;
+        let shards = based_shards(rt, alloc, &setup, &own)?;
+        let book = Book::with_folded(rt, alloc, &setup, own, folded)?;
         // Any call on a book tells what it keeps.
         let _accepted = book.len();
         Ok(PlainEngine::of_parts(setup, book, shards))

@@ -2,39 +2,11 @@
 //!
 //! Two batches are compared by client, number and matrix, cell by cell. No call takes memory.
 ghost use Rattle.std.specs.Prelude.{◌≡◌, ◌<◌, ◌↔◌, IsTrue};
-ghost use Rattle.std.specs.FinMap.{entries};
 ghost use Rattle.hyper_matrix.specs.Counts.{part};
 ghost use Rattle.plain_engine.specs.Records.{Follows};
 
-use batch_store::{Batch, Book, Shard};
+use batch_store::{Batch, Book, Pieces, Shard, same_matrix};
 use hyper_matrix::{Hyper, shard_of};
-
-// Whether two matrices have the same cells.
-fn same_cells(a: &Hyper, b: &Hyper) -> bool
-    ensures { IsTrue result ↔ (entries a.now.counts ≡ entries b.now.counts) }
-{
-    let mut others = b.iter();
-    'cells: for cell in a.iter() {
-        match others.next() {
-            Some(other) => {
-                if other != cell {
-                    return false;
-                }
-            }
-            None => return false,
-        }
-    }
-    others.next().is_none()
-}
-
-// Whether two matrices have the same dimensions and cells.
-fn same_matrix(a: &Hyper, b: &Hyper) -> bool
-    ensures { IsTrue result ↔ (a.now ≡ b.now) }
-{
-    let (rows, cols) = a.dims();
-    let (other_rows, other_cols) = b.dims();
-    rows == other_rows && cols == other_cols && same_cells(a, b)
-}
 
 /// Whether two batches have the same client, number and matrix.
 pub fn same_batch(a: &Batch, b: &Batch) -> bool
@@ -44,12 +16,12 @@ pub fn same_batch(a: &Batch, b: &Batch) -> bool
 }
 
 /// Whether a matrix has exactly the cells of another that lie in shard s of k.
-pub fn is_part(own: &Hyper, whole: &Hyper, s: u64, k: u64) -> bool
+pub fn is_part(own: &Hyper, whole: &Pieces, s: u64, k: u64) -> bool
     requires { 0 < k }
-    ensures { IsTrue result ↔ (own.now.counts ≡ part whole.now.counts s k) }
+    ensures { IsTrue result ↔ (own.now.counts ≡ part whole.now.whole.counts s k) }
 {
     let mut others = own.iter();
-    'cells: for cell in whole.iter() {
+    'cells: for cell in whole.cells() {
         if shard_of(cell.row, k) == s {
             match others.next() {
                 Some(other) => {

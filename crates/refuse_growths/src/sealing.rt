@@ -69,7 +69,7 @@ fn fold_shard(rt: &impl Print, alloc: Global, shard: &mut Shard) -> Result<(), S
     if fold.run(alloc).is_err() {
         say(rt, "shard sum refused");
         show_shard(rt, shard);
-        fold.run(alloc)?;
+        drop(fold.run(alloc)?);
     }
     if shard.settle_fold(alloc).is_none() {
         return Err(Stop::Fault);
@@ -99,10 +99,10 @@ fn fold_book(rt: &impl Print, alloc: Global, book: &mut Book) -> Result<(), Stop
     let Some(fold) = book_sealed_at_last(rt, alloc, book)? else {
         return Err(Stop::Fault);
     };
-    if fold.run(alloc).is_err() {
+    if fold.run(alloc, &[]).is_err() {
         say(rt, "book sum refused");
         show_book(rt, book);
-        fold.run(alloc)?;
+        fold.run(alloc, &[])?;
     }
     if book.settle_fold().is_none() {
         return Err(Stop::Fault);

@@ -82,7 +82,7 @@ pub fn with_list(
     ensures { IfOk result (λ sum.
         sum ≡ record m { counts = ewise_add m.counts (summed (accepted_in list.now)) }) }
 {
-    let base = list.base.copy(alloc)?;
+    let base = list.base.sum(alloc)?;
     let with_base = m.into_sum(alloc, base)?;
     let sum = with_batches(alloc, with_base, &list.batches)?;
     Ok(sum)

@@ -4,7 +4,7 @@ use Rattle.std.specs.Prelude.{flat_map, Ok, Err}
 use Rattle.byte_io.specs.Streams.{Answer, Calls, bytes_of_calls}
 use Rattle.byte_io.specs.Writing.{AnyOffer, EachTakes}
 use Rattle.file_folder.specs.Calls.{FolderCall, Done}
-use Rattle.snap_file.specs.Saving.{HasSaved, unfinished}
+use Rattle.snap_file.specs.Saving.{HasSaved}
 use Rattle.snap_file.specs.System.{SystemCall, CallOf, HasReplaced, WriteOf, Writes}
 
 module _ {B S : Type 0} (did : S → SystemCall → S → Type 0) (system : B → S)

@@ -11,7 +11,7 @@ use crate::fault::SnapFault;
 use crate::past::{Front, Past, read_front};
 use crate::reader::ByteReader;
 use crate::snapshot::Snapshot;
-use batch_store::BookList;
+use batch_store::{BookList, Pieces};
 use byte_io::Source;
 use hyper_matrix::Hyper;
 use std::alloc::{AllocError, Global};
@@ -28,12 +28,12 @@ impl From<AllocError> for SnapFault {
     }
 }
 
-// Makes a matrix ready to be shared.
-fn share(alloc: Global, m: Hyper) -> Result<Arc<Hyper>, SnapFault>
-    ensures ok { IfOk result (λ shared. arc_value shared ≡ m) }
+// Makes a matrix ready to be shared, as one piece.
+fn share(alloc: Global, m: &Hyper) -> Result<Arc<Pieces>, SnapFault>
+    ensures ok { IfOk result (λ shared. (arc_value shared).whole ≡ m.now) }
     ensures err { IfErr result (λ f. f ≡ SnapFault.Memory) }
 {
-    match Arc::new(alloc, m) {
+    match Pieces::one(alloc, m) {
         Ok(shared) => Ok(shared),
         Err(_) => Err(SnapFault::Memory),
     }
@@ -60,7 +60,7 @@ fn read_whole<R: Source>(
     let batches = read_batches(alloc, reader, r, &head)?;
     let Front { head, origin, past } = head;
     let Past { base, folded, .. } = past;
-    let base = share(alloc, base)?;
+    let base = share(alloc, &base)?;
     reader.expect_end(r)?;
     let list = BookList {
         base,

@@ -19,7 +19,7 @@ ghost use Rattle.byte_io.specs.Writing.{HasTaken, HasStopped};
 use crate::limits::{MARK, VERSION};
 use crate::origin::Origin;
 use crate::writer::ByteWriter;
-use batch_store::{Batch, BookList, Entry, Setup};
+use batch_store::{Batch, BookList, Entry, Pieces, Setup};
 use byte_io::{Sink, WRITE_CAPACITY, WriteFault};
 use cells::Cell;
 use hyper_matrix::Hyper;
@@ -181,6 +181,28 @@ fn write_matrix<W: Sink>(writer: &mut ByteWriter, w: &mut W, m: &Hyper) -> Resul
     Ok(())
 }
 
+/// Appends the cells of a matrix that is cut in pieces, in order, behind their number.
+fn write_pieces<W: Sink>(writer: &mut ByteWriter, w: &mut W, m: &Pieces) -> Result<(), WriteFault>
+    requires failures { W.failure_count w.old + 1 < 2 ^ 64 }
+    requires countable { writer.old.taken + length writer.old.pending < 2 ^ 125 }
+    ensures count { OnOk result (writer.new.taken + length writer.new.pending ≤ writer.old.taken +
+        length writer.old.pending + 2 ^ 69) }
+    ensures ok { OnOk result ((s : W) (all left : List ℕ) →
+        IsWriting W.write_takes W.failure_count s w.old all writer.old (matrix_bytes m.now.whole.counts ++ left) →
+        IsWriting W.write_takes W.failure_count s w.new all writer.new left) }
+    ensures err { IfErr result (λ f. (s : W) (all left : List ℕ) →
+        IsWriting W.write_takes W.failure_count s w.old all writer.old (matrix_bytes m.now.whole.counts ++ left) →
+        HasStopped W.write_takes W.failure_count s w.new all f.written) }
+    ensures failures { OnOk result (W.failure_count w.new ≡ W.failure_count w.old) }
+{
+    writer.make_room(w)?;
+    writer.push_u64(m.entries());
+    for cell in m.cells() {
+        write_cell(writer, w, cell)?;
+    }
+    Ok(())
+}
+
 /// Appends a batch.
 fn write_batch<W: Sink>(writer: &mut ByteWriter, w: &mut W, batch: &Batch) -> Result<(), WriteFault>
     requires failures { W.failure_count w.old + 1 < 2 ^ 64 }
@@ -279,7 +301,7 @@ fn write_folded<W: Sink>(
 fn write_past<W: Sink>(
     writer: &mut ByteWriter,
     w: &mut W,
-    base: &Hyper,
+    base: &Pieces,
     folded: &[Entry],
 ) -> Result<(), WriteFault>
     requires failures { W.failure_count w.old + 1 < 2 ^ 64 }
@@ -289,18 +311,18 @@ fn write_past<W: Sink>(
         length writer.old.pending + 2 ^ 72) }
     ensures ok { OnOk result ((s : W) (all left : List ℕ) →
         IsWriting W.write_takes W.failure_count s w.old all writer.old
-        (past_bytes base.now.counts folded.now ++ left) →
+        (past_bytes base.now.whole.counts folded.now ++ left) →
         IsWriting W.write_takes W.failure_count s w.new all writer.new left) }
     ensures err { IfErr result (λ f. (s : W) (all left : List ℕ) →
         IsWriting W.write_takes W.failure_count s w.old all writer.old
-        (past_bytes base.now.counts folded.now ++ left) →
+        (past_bytes base.now.whole.counts folded.now ++ left) →
         HasStopped W.write_takes W.failure_count s w.new all f.written) }
     ensures failures { OnOk result (W.failure_count w.new ≡ W.failure_count w.old) }
 {
     writer.make_room(w)?;
     writer.push_u64(folded.len() as u64);
     write_folded(writer, w, folded)?;
-    write_matrix(writer, w, base)?;
+    write_pieces(writer, w, base)?;
     Ok(())
 }
 
@@ -308,7 +330,7 @@ fn write_past<W: Sink>(
 fn write_checked_past<W: Sink>(
     writer: &mut ByteWriter,
     w: &mut W,
-    base: &Hyper,
+    base: &Pieces,
     folded: &[Entry],
 ) -> Result<(), WriteFault>
     requires failures { W.failure_count w.old + 1 < 2 ^ 64 }
@@ -317,13 +339,13 @@ fn write_checked_past<W: Sink>(
     ensures count { OnOk result (writer.new.taken + length writer.new.pending ≤ writer.old.taken +
         length writer.old.pending + 2 ^ 73) }
     ensures ok { OnOk result ((s : W) (all front left : List ℕ) →
-        all ≡ front ++ (checked_bytes version front (past_bytes base.now.counts folded.now) ++ left) →
+        all ≡ front ++ (checked_bytes version front (past_bytes base.now.whole.counts folded.now) ++ left) →
         IsWriting W.write_takes W.failure_count s w.old all writer.old
-        (checked_bytes version front (past_bytes base.now.counts folded.now) ++ left) →
+        (checked_bytes version front (past_bytes base.now.whole.counts folded.now) ++ left) →
         IsWriting W.write_takes W.failure_count s w.new all writer.new left) }
     ensures err { IfErr result (λ f. (s : W) (all front left : List ℕ) →
         IsWriting W.write_takes W.failure_count s w.old all writer.old
-        (checked_bytes version front (past_bytes base.now.counts folded.now) ++ left) →
+        (checked_bytes version front (past_bytes base.now.whole.counts folded.now) ++ left) →
         HasStopped W.write_takes W.failure_count s w.new all f.written) }
     ensures failures { OnOk result (W.failure_count w.new ≡ W.failure_count w.old) }
 {
@@ -337,16 +359,16 @@ fn write_parts<W: Sink>(
     w: &mut W,
     origin: Origin,
     setup: &Setup,
-    base: &Hyper,
+    base: &Pieces,
     folded: &[Entry],
     batches: &[Arc<Batch>],
 ) -> Result<(), WriteFault>
     requires failures { W.failure_count w.old + 1 < 2 ^ 64 }
-    requires accepted { AreAccepted setup.now (accepted base.now.counts folded.now (values batches.now)) }
+    requires accepted { AreAccepted setup.now (accepted base.now.whole.counts folded.now (values batches.now)) }
     ensures ok { OnOk result (HasTaken W.write_takes W.failure_count w.old w.new
-        (file origin setup.now (accepted base.now.counts folded.now (values batches.now)))) }
+        (file origin setup.now (accepted base.now.whole.counts folded.now (values batches.now)))) }
     ensures err { IfErr result (λ f. HasStopped W.write_takes W.failure_count w.old w.new
-        (file origin setup.now (accepted base.now.counts folded.now (values batches.now))) f.written) }
+        (file origin setup.now (accepted base.now.whole.counts folded.now (values batches.now))) f.written) }
 {
     let mut writer = ByteWriter::new();
     // The limit bounds the total.

@@ -20,10 +20,9 @@ ghost use Rattle.snap_report.specs.Kept.{HasLoaded, IsReadTold, ComesLater};
 use crate::fault::CheckFault;
 use crate::limits::{CHECK_CUTS, SNAPSHOT_BYTES};
 use arrayvec::ArrayString;
-use batch_store::{Batch, BookList, Entry, Setup};
+use batch_store::{Batch, BookList, Entry, Pieces, Setup};
 use byte_io::{Sink, write_all};
 use cells::Cell;
-use hyper_matrix::Hyper;
 use layer_cascade::CascadeFault;
 use pending_layers::PendingLayers;
 use snap_file::SnapshotFile;
@@ -65,19 +64,20 @@ fn with_batch(
 pub(crate) fn sum_of(
     alloc: Global,
     setup: &Setup,
-    base: &Hyper,
+    base: &Pieces,
     batches: &[Arc<Batch>],
 ) -> Result<Vec<Cell>, AllocError>
-    requires based { (base.now.rows ≡ setup.now.rows) × (base.now.cols ≡ setup.now.cols) }
+    requires based { (base.now.whole.rows ≡ setup.now.rows) × (base.now.whole.cols ≡ setup.now.cols) }
     requires dims { HaveDims setup.now.rows setup.now.cols (values batches.now) }
-    requires fits { total base.now.counts + list_total (values batches.now) < 2 ^ 64 }
+    requires fits { total base.now.whole.counts + list_total (values batches.now) < 2 ^ 64 }
     ensures rises { IfOk result (λ list. Rise list.items) }
     ensures within { IfOk result (λ list. AreWithin setup.now.rows setup.now.cols list.items) }
     ensures sum { IfOk result (λ list.
-        built_of list.items ≡ summed (accepted base.now.counts [] (values batches.now))) }
+        built_of list.items ≡ summed (accepted base.now.whole.counts [] (values batches.now))) }
 {
     let empty = empty_layers(alloc, setup)?;
-    let mut layers = empty.add(alloc, base)?;
+    let whole = base.sum(alloc)?;
+    let mut layers = empty.add(alloc, &whole)?;
     for batch in batches {
         layers = with_batch(alloc, layers, batch)?;
     }
@@ -89,14 +89,14 @@ pub(crate) fn sum_of(
 fn entries_of(
     alloc: Global,
     setup: &Setup,
-    base: &Hyper,
+    base: &Pieces,
     batches: &[Arc<Batch>],
 ) -> Result<u64, AllocError>
-    requires based { (base.now.rows ≡ setup.now.rows) × (base.now.cols ≡ setup.now.cols) }
+    requires based { (base.now.whole.rows ≡ setup.now.rows) × (base.now.whole.cols ≡ setup.now.cols) }
     requires dims { HaveDims setup.now.rows setup.now.cols (values batches.now) }
-    requires fits { total base.now.counts + list_total (values batches.now) < 2 ^ 64 }
+    requires fits { total base.now.whole.counts + list_total (values batches.now) < 2 ^ 64 }
     ensures { IfOk result (λ entries.
-        entries ≡ len (summed (accepted base.now.counts [] (values batches.now)))) }
+        entries ≡ len (summed (accepted base.now.whole.counts [] (values batches.now)))) }
 {
     let cells = sum_of(alloc, setup, base, batches)?;
     Ok(cells.len() as u64)
@@ -152,14 +152,14 @@ fn line_of(setup: &Setup, batches: u64, total: u64, entries: u64) -> ArrayString
 fn line_of_parts(
     alloc: Global,
     setup: &Setup,
-    base: &Hyper,
+    base: &Pieces,
     folded: &[Entry],
     batches: &[Arc<Batch>],
 ) -> Result<ArrayString<LINE_CAPACITY>, AllocError>
-    requires accepted { AreAccepted setup.now (accepted base.now.counts folded.now (values batches.now)) }
-    requires based { (base.now.rows ≡ setup.now.rows) × (base.now.cols ≡ setup.now.cols) }
+    requires accepted { AreAccepted setup.now (accepted base.now.whole.counts folded.now (values batches.now)) }
+    requires based { (base.now.whole.rows ≡ setup.now.rows) × (base.now.whole.cols ≡ setup.now.cols) }
     ensures bytes { IfOk result (λ line.
-        line.bytes ≡ check_line setup.now (accepted base.now.counts folded.now (values batches.now))) }
+        line.bytes ≡ check_line setup.now (accepted base.now.whole.counts folded.now (values batches.now))) }
     ensures short { IfOk result (λ line. array_string_len line ≤ 165) }
 {
     // The limits bound the total and the number of batches.

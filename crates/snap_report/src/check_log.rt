@@ -19,7 +19,7 @@ use crate::fault::CheckFault;
 use crate::kept_log::KeptLog;
 use crate::limits::{LOG_BYTES, SNAPSHOT_BYTES};
 use arrayvec::ArrayString;
-use batch_store::{BookList, Setup};
+use batch_store::{BookList, Pieces, Setup};
 use byte_io::Sink;
 use hyper_matrix::Hyper;
 use log_batches::block_pages;
@@ -28,7 +28,6 @@ use log_join::join_log;
 use log_read::{Block, LogFile, all_batches};
 use snap_file::{FileFault, Origin, Snapshot, SnapshotFile};
 use std::alloc::{AllocError, Global};
-use std::sync::Arc;
 
 // A list of a book that has accepted nothing.
 fn empty_list(alloc: Global, setup: &Setup) -> Result<BookList, AllocError>
@@ -37,7 +36,7 @@ fn empty_list(alloc: Global, setup: &Setup) -> Result<BookList, AllocError>
 {
     let base = Hyper::new(alloc, setup.rows(), setup.cols());
     Ok(BookList {
-        base: Arc::new(alloc, base)?,
+        base: Pieces::one(alloc, &base)?,
         folded: Vec::new(alloc),
         batches: Vec::new(alloc),
     })

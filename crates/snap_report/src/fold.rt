@@ -17,7 +17,7 @@ use crate::fault::FoldFault;
 use crate::limits::SNAPSHOT_BYTES;
 use crate::making::line_of;
 use crate::refit::{needs_log, refit};
-use batch_store::{Batch, BookList, Entry, GivenNumbers, Setup};
+use batch_store::{Batch, BookList, Entry, GivenNumbers, Pieces, Setup};
 use byte_io::{Sink, write_all};
 use cells::Cell;
 use hyper_matrix::Hyper;
@@ -25,13 +25,13 @@ use snap_file::SnapshotFile;
 use std::alloc::{AllocError, Global};
 use std::sync::Arc;
 
-// The matrix of these cells.
-fn base_of(alloc: Global, setup: &Setup, cells: Vec<Cell>) -> Result<Arc<Hyper>, AllocError>
+// The matrix of these cells, as one piece.
+fn base_of(alloc: Global, setup: &Setup, cells: Vec<Cell>) -> Result<Arc<Pieces>, AllocError>
     ensures { IfOk result (λ base.
-        arc_value base ≡ matrix setup.now.rows setup.now.cols (built_of cells.items)) }
+        (arc_value base).whole ≡ matrix setup.now.rows setup.now.cols (built_of cells.items)) }
 {
     match Hyper::build_list(alloc, setup.rows(), setup.cols(), cells) {
-        Ok(sum) => Ok(Arc::new(alloc, sum)?),
+        Ok(sum) => Pieces::one(alloc, &sum),
         Err(_) => Err(AllocError),
     }
 }

@@ -15,7 +15,7 @@ ghost use Rattle.snap_roll.specs.Rolls.{entry_of_sum, window_of, with_sum};
 use crate::has::find;
 use crate::roll_fault::{Refusal, Untaken};
 use crate::window::{book_in, judge_window};
-use batch_store::{Batch, BookList, Entry, Setup, with_batches};
+use batch_store::{Batch, BookList, Entry, Pieces, Setup, with_batches};
 use hyper_matrix::Hyper;
 use snap_file::{Identity, Snapshot};
 use std::alloc::{AllocError, Global};
@@ -35,7 +35,7 @@ fn sum_of(alloc: Global, setup: &Setup, list: &BookList) -> Result<Hyper, AllocE
     requires based { HasBase setup.now list.now }
     ensures { IfOk result (λ m. m ≡ matrix setup.now.rows setup.now.cols (summed (accepted_in list.now))) }
 {
-    let base = list.base.copy(alloc)?;
+    let base = list.base.sum(alloc)?;
     let sum = with_batches(alloc, base, &list.batches)?;
     Ok(sum)
 }
@@ -74,7 +74,7 @@ pub fn folded(alloc: Global, setup: &Setup, list: BookList) -> Result<BookList, 
 {
     let sum = sum_of(alloc, setup, &list)?;
     let folded = all_entries(list)?;
-    let base = Arc::new(alloc, sum)?;
+    let base = Pieces::one(alloc, &sum)?;
     Ok(BookList {
         base,
         folded,
@@ -89,7 +89,7 @@ pub fn empty_list(alloc: Global, setup: &Setup) -> Result<BookList, AllocError>
 {
     let base = Hyper::new(alloc, setup.rows(), setup.cols());
     Ok(BookList {
-        base: Arc::new(alloc, base)?,
+        base: Pieces::one(alloc, &base)?,
         folded: Vec::new(alloc),
         batches: Vec::new(alloc),
     })
@@ -160,10 +160,10 @@ fn with_sum(
         batches,
     } = list;
     folded.push(entry)?;
-    let before = base.copy(alloc)?;
+    let before = base.sum(alloc)?;
     let both = before.into_sum(alloc, sum)?;
     Ok(BookList {
-        base: Arc::new(alloc, both)?,
+        base: Pieces::one(alloc, &both)?,
         folded,
         batches,
     })

@@ -17,14 +17,14 @@ use crate::host::Host;
 use crate::log_host::LogHost;
 use crate::settings::{MAX_BYTES, Settings};
 use crate::start::{log_fault, note};
-use batch_store::{BookList, GivenNumbers, GrowthFault, Number, Setup, with_dims};
+use batch_store::{BookList, GivenNumbers, GrowthFault, Number, Pieces, Setup, with_dims};
 use event_log::Event;
 use hyper_matrix::Hyper;
 use log_desk::Log;
 use log_start::StartFault;
 use snap_file::{FileFault, Origin, Snapshot};
 use std::alloc::Global;
-use std::sync::{Arc, Wait};
+use std::sync::Wait;
 
 /// What was loaded, and what the snapshot says of itself, if there is one.
 #[derive(Drop)]
@@ -51,7 +51,7 @@ pub(crate) fn empty_list(alloc: Global, setup: &Setup) -> Result<BookList, Serve
     ensures memory { IfErr result (λ f. f ≡ ServerFault.Memory) }
 {
     let base = Hyper::new(alloc, setup.rows(), setup.cols());
-    let Ok(base) = Arc::new(alloc, base) else {
+    let Ok(base) = Pieces::one(alloc, &base) else {
         return Err(ServerFault::Memory);
     };
     Ok(BookList {

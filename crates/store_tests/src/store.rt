@@ -4,6 +4,7 @@ mod batches;
 mod books;
 mod folds;
 mod lists;
+mod pieces;
 mod sealed;
 mod setups;
 mod shards;

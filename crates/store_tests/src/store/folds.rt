@@ -4,7 +4,7 @@ ghost use Rattle.std.specs.Prelude.{◌≡◌, ◌≤◌};
 use crate::store::books::{Put, put_all};
 use crate::store::shards::{Step, shard_after, take_all};
 use batch_store::Verdict::{NumberReused, OverTotal};
-use batch_store::{Book, Entry, Setup, Shard};
+use batch_store::{Book, Entry, Pieces, Setup, Shard};
 use cells::Cell;
 use hyper_matrix::Hyper;
 use std::alloc::Global;
@@ -21,11 +21,26 @@ fn sum(m: &Hyper) -> Sum {
     (m.entries(), m.total(), m.get(0, 0))
 }
 
+// The same of pieces.
+fn pieces_sum(base: &Pieces) -> Sum {
+    let first = base.cells().next();
+    let count = match first {
+        Some(cell) if cell.row == 0 && cell.col == 0 => Some(cell.count),
+        _ => None,
+    };
+    (base.entries(), base.total(), count)
+}
+
 /// How many batches a book has, how many of them are folded, their total, and the base.
 pub type Size = (u64, u64, u64, Sum);
 
 pub fn size(book: &Book) -> Size {
-    (book.len(), book.folded(), book.total(), sum(book.base()))
+    (
+        book.len(),
+        book.folded(),
+        book.total(),
+        pieces_sum(book.base()),
+    )
 }
 
 const FIRST: Entry = Entry {
@@ -61,7 +76,7 @@ fn given_book<R: RandomSource + Abort>(rt: &R, alloc: Global, setup: &Setup) -> 
         count: 8,
     };
     let m = Hyper::build(alloc, setup.rows(), setup.cols(), &[cell]).expect(rt, "a matrix");
-    let base = Arc::new(alloc, m).expect(rt, "memory");
+    let base = Pieces::one(alloc, &m).expect(rt, "memory");
     Book::with_folded(rt, alloc, setup, base, &[FIRST, SECOND]).expect(rt, "a book")
 }
 
@@ -95,7 +110,11 @@ fn listed(rt: &impl Abort, alloc: Global, book: &Book) -> (usize, usize, usize, 
     let count = list.len();
     drop(list);
     let list = book.book_list(alloc).expect(rt, "memory");
-    let sizes = (list.folded.len(), list.batches.len(), sum(&list.base));
+    let sizes = (
+        list.folded.len(),
+        list.batches.len(),
+        pieces_sum(&list.base),
+    );
     drop(list);
     (count, sizes.0, sizes.1, sizes.2)
 }

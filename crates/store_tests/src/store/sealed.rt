@@ -38,9 +38,9 @@ fn sum_up(rt: &impl Abort, alloc: Global, fold: Option<Arc<BookFold>>) {
     let Some(fold) = fold else {
         panic!(rt; "nothing was sealed");
     };
-    fold.run(alloc).expect(rt, "memory");
+    fold.run(alloc, &[]).expect(rt, "memory");
     // The base is made already, so this sum is dropped.
-    fold.run(alloc).expect(rt, "memory");
+    fold.run(alloc, &[]).expect(rt, "memory");
 }
 
 // What is put first, and then folded.
@@ -168,7 +168,7 @@ fn fold_shard_beside(
     let early = settle_shard(alloc, shard);
     let beside = told(shard);
     if let Some(fold) = fold {
-        fold.run(alloc).expect(rt, "memory");
+        drop(fold.run(alloc).expect(rt, "memory"));
     }
     let made = settle_shard(alloc, shard);
     let after = told(shard);

@@ -1,6 +1,7 @@
 use Rattle.std.proofs.Common.{◌≡◌, sym, ◌∙◌, ap, subst, arith, ℕ}
 use Rattle.hyper_matrix.specs.Counts.{part}
 use Rattle.hyper_matrix.specs.Matrix.{Matrix}
+use Rattle.batch_store.specs.Pieces.{Cut}
 use Rattle.plain_engine.specs.Records.{Follows}
 use Rattle.plain_engine.specs.Standing.{AreTogether}
 use Rattle.plain_engine.proofs.StandLaws.{stand_next, together_next}
@@ -21,8 +22,9 @@ shards-preserved c =
     subst (λ (n : ℕ). Follows n v.shards x.record_list a.list) inv.at
     (subst (λ (k : ℕ). Follows c.shards.place k x.record_list a.list) c.shards-k.ensures.value told) in
     let own : c.deref.result.now.counts ≡ x.base = ap (λ (m : Matrix). m.counts) (c.deref.ensures ∙ c.base.ensures) in
-    let whole : c.deref-in-shards.result.now.counts ≡ a.base = ap (λ (m : Matrix). m.counts)
-    (c.deref-in-shards.ensures ∙ c.base-in-shards.ensures) in
+    let whole : c.deref-in-shards.result.now.whole.counts ≡ a.base =
+    ap (λ (x : Cut). x.whole.counts) c.deref-in-shards.ensures
+    ∙ ap (λ (m : Matrix). m.counts) c.base-in-shards.ensures in
     let based : x.base ≡ part a.base i v.shards = sym own ∙ c.is_part.ensures.0 c.if-not-is_part.false
     ∙ (λ j. part (whole j) (inv.at j) (c.shards-k.ensures.value j)) in
     record {

@@ -3,16 +3,16 @@ use Rattle.std.specs.FinMap.{entries}
 use Rattle.hyper_matrix.specs.Counts.{part}
 use Rattle.hyper_matrix.specs.Parts.{part_entries}
 use Rattle.hyper_matrix.proofs.PartLaws.{entries-part}
-use Rattle.plain_engine.proofs.SameLaws.{same_counts_by_entries}
+use Rattle.batch_store.proofs.SameMatrices.{same_counts_by_entries}
 use Rattle.plain_engine.proofs.same.is_part.Goals as goal
 
 pub cells-init : goal.cells-init
 cells-init c =
     let own = c.args.own.now.counts in
-    let whole = c.args.whole.now.counts in
+    let whole = c.args.whole.now.whole.counts in
     let s = c.args.s in
     let k = c.args.k in
-    let left = c.into_iter-cell-iterator.ensures.into_iter_gives ∙ c.iter-cell-items.ensures.order in
+    let left = c.into_iter-cell-iterator.ensures.into_iter_gives ∙ c.cells-cell-items.ensures.order in
     record {
       can = tt;
       finite = tt;

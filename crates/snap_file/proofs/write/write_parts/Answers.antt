@@ -40,7 +40,7 @@ loop-batch-preserved g c =
 pub loop-batch-init : goal.loop-batch-init
 loop-batch-init g c =
     let list = values c.args.batches.now in
-    let a = accepted c.args.base.now.counts c.args.folded.now list in
+    let a = accepted c.args.base.now.whole.counts c.args.folded.now list in
     let count : length c.args.batches.now ≡ length list = sym (length-map c.args.batches.now arc_value) in
     let sum : c.total.result + c.total_of.result ≡ total_in a = omega (
       arith,
@@ -76,7 +76,7 @@ pub returns-in_err-write_check-clause-err : goal.returns-in_err-write_check-clau
 returns-in_err-write_check-clause-err g c =
     let p = err_from_is_err_and c.from_residual.result c.from_residual.ensures.1 in
     let list = values c.args.batches.now in
-    let a = accepted c.args.base.now.counts c.args.folded.now list in
+    let a = accepted c.args.base.now.whole.counts c.args.folded.now list in
     let count : length c.args.batches.now ≡ length list = sym (length-map c.args.batches.now arc_value) in
     let sum : c.total.result + c.total_of.result ≡ total_in a = omega (
       arith,
@@ -97,7 +97,7 @@ returns-in_err-write_checked_past-clause-err g c =
     let p = err_from_is_err_and c.from_residual-in_err-write_checked_past.result
     c.from_residual-in_err-write_checked_past.ensures.1 in
     let list = values c.args.batches.now in
-    let a = accepted c.args.base.now.counts c.args.folded.now list in
+    let a = accepted c.args.base.now.whole.counts c.args.folded.now list in
     let count : length c.args.batches.now ≡ length list = sym (length-map c.args.batches.now arc_value) in
     let sum : c.total.result + c.total_of.result ≡ total_in a = omega (
       arith,
@@ -119,12 +119,12 @@ returns-in_err-write_checked_past-clause-err g c =
 
 pub total_of-requires : goal.total_of-requires
 total_of-requires g c =
-    let a = accepted c.args.base.now.counts c.args.folded.now (values c.args.batches.now) in
+    let a = accepted c.args.base.now.whole.counts c.args.folded.now (values c.args.batches.now) in
     omega (arith, total_parts a, c.requires.accepted.within, c.requires.accepted.sound.fits)
 
 pub overflow_add-total : goal.overflow_add-total
 overflow_add-total g c =
-    let a = accepted c.args.base.now.counts c.args.folded.now (values c.args.batches.now) in
+    let a = accepted c.args.base.now.whole.counts c.args.folded.now (values c.args.batches.now) in
     omega (
       arith,
       total_parts a,
@@ -140,7 +140,7 @@ write_checked_batch-requires-clause-failures g c = omega (arith, c.requires.fail
 
 pub write_checked_batch-requires-clause-countable : goal.write_checked_batch-requires-clause-countable
 write_checked_batch-requires-clause-countable g c =
-    let a = accepted c.args.base.now.counts c.args.folded.now (values c.args.batches.now) in
+    let a = accepted c.args.base.now.whole.counts c.args.folded.now (values c.args.batches.now) in
     omega (
       arith,
       c.loop-batch.invariant.counted,
@@ -155,7 +155,7 @@ finish-requires-clause-failures g c = omega (arith, c.requires.failures, c.loop-
 
 pub finish-requires-clause-countable : goal.finish-requires-clause-countable
 finish-requires-clause-countable g c =
-    let a = accepted c.args.base.now.counts c.args.folded.now (values c.args.batches.now) in
+    let a = accepted c.args.base.now.whole.counts c.args.folded.now (values c.args.batches.now) in
     omega (
       arith,
       c.loop-batch.invariant.counted,

@@ -10,6 +10,6 @@ invariant-loop-batch g l = record {
   failures : g.W.Sink.failure_count l.w ≡ g.W.Sink.failure_count l.fn.w;
   counted : l.writer.taken + length l.writer.pending ≤ 147 + 2 ^ 73 + 2 ^ 71 * l.batch-index;
   written : IsBeforeBatches {S = g.row.W.Denot} g.W.Sink.write_takes g.W.Sink.failure_count l.fn.w l.w
-      (file l.fn.origin l.setup (accepted l.base.counts l.folded (values l.batches))) l.writer
+      (file l.fn.origin l.setup (accepted l.base.whole.counts l.folded (values l.batches))) l.writer
       (values (drop l.batch-index l.batches));
 }

@@ -13,28 +13,28 @@ pub returns-in_err-write_folded-clause-err : goal.returns-in_err-write_folded-cl
 returns-in_err-write_folded-clause-err g c =
     let p = err_from_is_err_and c.from_residual-in_err-write_folded.result
     c.from_residual-in_err-write_folded.ensures.1 in rw (p.1, p.2) (λ s all left h.
-    c.in_err-write_folded.ensures.err s all (matrix_bytes c.args.base.now.counts ++ left)
-    (apart _ _ s _ all _ (flat_map entry_bytes c.args.folded.now) (matrix_bytes c.args.base.now.counts) left
+    c.in_err-write_folded.ensures.err s all (matrix_bytes c.args.base.now.whole.counts ++ left)
+    (apart _ _ s _ all _ (flat_map entry_bytes c.args.folded.now) (matrix_bytes c.args.base.now.whole.counts) left
     (writing_more _ _ s _ all _ _ left c.make_room.new.self c.push_u64.new.self
     (c.in_ok-make_room.ensures.ok s all _ h) c.push_u64.ensures.taken c.push_u64.ensures.pending
     c.push_u64.ensures.remainder)))
 
-pub returns-in_err-write_matrix-clause-err : goal.returns-in_err-write_matrix-clause-err
-returns-in_err-write_matrix-clause-err g c =
-    let p = err_from_is_err_and c.from_residual-in_err-write_matrix.result
-    c.from_residual-in_err-write_matrix.ensures.1 in rw (p.1, p.2) (λ s all left h.
-    c.in_err-write_matrix.ensures.err s all left
-    (c.in_ok-write_folded.ensures.ok s all (matrix_bytes c.args.base.now.counts ++ left)
-    (apart _ _ s _ all _ (flat_map entry_bytes c.args.folded.now) (matrix_bytes c.args.base.now.counts) left
+pub returns-in_err-write_pieces-clause-err : goal.returns-in_err-write_pieces-clause-err
+returns-in_err-write_pieces-clause-err g c =
+    let p = err_from_is_err_and c.from_residual-in_err-write_pieces.result
+    c.from_residual-in_err-write_pieces.ensures.1 in rw (p.1, p.2) (λ s all left h.
+    c.in_err-write_pieces.ensures.err s all left
+    (c.in_ok-write_folded.ensures.ok s all (matrix_bytes c.args.base.now.whole.counts ++ left)
+    (apart _ _ s _ all _ (flat_map entry_bytes c.args.folded.now) (matrix_bytes c.args.base.now.whole.counts) left
     (writing_more _ _ s _ all _ _ left c.make_room.new.self c.push_u64.new.self
     (c.in_ok-make_room.ensures.ok s all _ h) c.push_u64.ensures.taken c.push_u64.ensures.pending
     c.push_u64.ensures.remainder))))
 
 pub returns-clause-ok : goal.returns-clause-ok
 returns-clause-ok g c = λ s all left h.
-    c.in_ok-write_matrix.ensures.ok s all left
-    (c.in_ok-write_folded.ensures.ok s all (matrix_bytes c.args.base.now.counts ++ left)
-    (apart _ _ s _ all _ (flat_map entry_bytes c.args.folded.now) (matrix_bytes c.args.base.now.counts) left
+    c.in_ok-write_pieces.ensures.ok s all left
+    (c.in_ok-write_folded.ensures.ok s all (matrix_bytes c.args.base.now.whole.counts ++ left)
+    (apart _ _ s _ all _ (flat_map entry_bytes c.args.folded.now) (matrix_bytes c.args.base.now.whole.counts) left
     (writing_more _ _ s _ all _ _ left c.make_room.new.self c.push_u64.new.self
     (c.in_ok-make_room.ensures.ok s all _ h) c.push_u64.ensures.taken c.push_u64.ensures.pending
     c.push_u64.ensures.remainder)))

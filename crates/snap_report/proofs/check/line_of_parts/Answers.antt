@@ -9,7 +9,7 @@ use Rattle.snap_report.proofs.check.line_of_parts.Goals as goal
 
 pub entries_of-requires-clause-fits : goal.entries_of-requires-clause-fits
 entries_of-requires-clause-fits c =
-    let a = accepted c.args.base.now.counts c.args.folded.now (values c.args.batches.now) in
+    let a = accepted c.args.base.now.whole.counts c.args.folded.now (values c.args.batches.now) in
     omega (
       arith,
       total_parts a,
@@ -20,12 +20,12 @@ entries_of-requires-clause-fits c =
 
 pub total_of-requires : goal.total_of-requires
 total_of-requires c =
-    let a = accepted c.args.base.now.counts c.args.folded.now (values c.args.batches.now) in
+    let a = accepted c.args.base.now.whole.counts c.args.folded.now (values c.args.batches.now) in
     omega (arith, total_parts a, c.requires.accepted.within, c.requires.accepted.sound.fits)
 
 pub overflow_add-total : goal.overflow_add-total
 overflow_add-total c =
-    let a = accepted c.args.base.now.counts c.args.folded.now (values c.args.batches.now) in
+    let a = accepted c.args.base.now.whole.counts c.args.folded.now (values c.args.batches.now) in
     omega (
       arith,
       total_parts a,
@@ -39,7 +39,7 @@ overflow_add-total c =
 pub returns-clause-bytes : goal.returns-clause-bytes
 returns-clause-bytes c =
     let s = c.args.setup.now in
-    let a = accepted c.args.base.now.counts c.args.folded.now (values c.args.batches.now) in
+    let a = accepted c.args.base.now.whole.counts c.args.folded.now (values c.args.batches.now) in
     let count : length c.args.folded.now + length c.args.batches.now ≡ count_in a =
     omega (arith, count_is a, length-map c.args.batches.now arc_value) in
     let sum : c.total.result + c.total_of.result ≡ total_in a =

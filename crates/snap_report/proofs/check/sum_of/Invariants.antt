@@ -7,5 +7,5 @@ abbrev pub invariant-loop-batch : goal.invariant-loop-batch
 invariant-loop-batch l = record {
   rows : l.layers.rows ≡ l.setup.rows;
   cols : l.layers.cols ≡ l.setup.cols;
-  sum : l.layers.counts ≡ sum_of l.base.counts (values (take l.batch-index l.batches));
+  sum : l.layers.counts ≡ sum_of l.base.whole.counts (values (take l.batch-index l.batches));
 }

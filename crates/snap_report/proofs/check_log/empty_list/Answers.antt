@@ -4,5 +4,5 @@ use Rattle.snap_report.proofs.check_log.empty_list.Goals as goal
 
 pub invariant_of-result : goal.invariant_of-result
 invariant_of-result c =
-    empty_based (arc_value c.in_ok-new.field-0) c.new-base.result c.rows.result c.cols.result c.new-2.result.items
-    c.in_ok-new.ensures.ok c.new-base.ensures c.new-2.ensures.items
+    empty_based ((arc_value c.in_ok-one.field-0).whole) c.new-base.result c.rows.result c.cols.result c.new.result.items
+    c.in_ok-one.ensures c.new-base.ensures c.new.ensures.items

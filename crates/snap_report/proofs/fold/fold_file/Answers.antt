@@ -6,6 +6,7 @@ use Rattle.batch_store.specs.Books.{Listing, accepted_in}
 use Rattle.batch_store.specs.Growth.{RefusesGrowth}
 use Rattle.batch_store.specs.Setups.{Setting}
 use Rattle.batch_store.proofs.SumLaws.{total-summed}
+use Rattle.batch_store.specs.Pieces.{Cut}
 use Rattle.snap_file.specs.Snapshots.{saved}
 use Rattle.snap_report.specs.declared.fault.FoldFault.TheVariants.{Memory}
 use Rattle.snap_report.specs.Folds.{fold_fault_of_growth, fold_fault_of_save}
@@ -42,7 +43,7 @@ returns-clause-ok g c =
       omega (
         arith,
         c.total.ensures.value,
-        ap (λ (m : Matrix). total m.counts) c.deref.ensures,
+        ap (λ (x : Cut). total x.whole.counts) c.deref.ensures,
         ap (λ (l : Listing). total l.base.counts) c.list.view_is,
         ap (λ (b : Accepted). total b.base) state,
         total-summed a kept.based,

@@ -12,8 +12,8 @@ returns-in_default-clause-accepted c = accepted_none c.args.setup.now c.rows.ens
 -- nothing is folded, and the base is empty
 pub invariant_of-result : goal.invariant_of-result
 invariant_of-result c =
-    subst (λ (es : List Entry). IsBase (arc_value c.in-Ok.base).counts es) (sym c.new-2.ensures.items)
-    (subst (λ (m : Matrix). IsBase m.counts []) (sym (c.in-Ok.ensures.ok ∙ c.new-base.ensures))
+    subst (λ (es : List Entry). IsBase (arc_value c.in-Ok.base).whole.counts es) (sym c.new.ensures.items)
+    (subst (λ (m : Matrix). IsBase m.counts []) (sym (c.in-Ok.ensures ∙ c.new-base.ensures))
     (accepted_none c.args.setup.now c.rows.ensures.kept).based)
 
 pub returns-clause-accepted : goal.returns-clause-accepted

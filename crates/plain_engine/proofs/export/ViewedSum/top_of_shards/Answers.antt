@@ -1,4 +1,4 @@
-use Rattle.std.proofs.Common.{◌≡◌, ℕ, ◌+◌, ◌++◌, List, [], take, length, sym, ◌∙◌, ap, subst, arith}
+use Rattle.std.proofs.Common.{◌≡◌, ℕ, ◌+◌, ◌++◌, List, [], take, sym, ◌∙◌, ap, subst, arith}
 use Rattle.std.specs.FinMap.{entries, len-empty, len-entries}
 use Rattle.std.proofs.lemmas.List.{take_all}
 use Rattle.cell_queries.specs.declared.tally.RowTally.{RowTally}

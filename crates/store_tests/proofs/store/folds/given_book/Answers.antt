@@ -23,7 +23,7 @@ with_folded-requires-clause-accepted g c =
       few = c.requires.few;
       within = c.requires.within;
       based = record {
-        adds_up = ap (λ (m : Matrix). total m.counts) (IfOk-at_ok _ c.expect-base.ensures c.new.ensures.ok
+        adds_up = ap (λ (m : Matrix). total m.counts) (IfOk-at_ok _ c.expect-base.ensures c.one.ensures
             ∙ IfOk-at_ok _ c.expect-m.ensures c.build.ensures.ok)
             ∙ total-built_of cells;
         none = λ h. cc;

@@ -1,6 +1,6 @@
 use Rattle.std.proofs.Common.{◌≡◌, ◌↔◌}
 use Rattle.std.specs.FinMap.{entries}
-use Rattle.plain_engine.proofs.same.same_cells.Given as goal
+use Rattle.batch_store.proofs.same.same_cells.Given as goal
 
 abbrev pub invariant-cells : goal.invariant-cells
 invariant-cells l = record {

@@ -1,8 +1,8 @@
 use Rattle.std.proofs.Common.{◌≡◌, sym, ◌∙◌, ap, ℕ}
 use Rattle.std.specs.FinMap.{entries}
 use Rattle.hyper_matrix.specs.Matrix.{Matrix}
-use Rattle.plain_engine.proofs.SameLaws.{same_matrices}
-use Rattle.plain_engine.proofs.same.same_matrix.Goals as goal
+use Rattle.batch_store.proofs.SameMatrices.{same_matrices}
+use Rattle.batch_store.proofs.same.same_matrix.Goals as goal
 
 pub returns-then-cols-other_cols : goal.returns-then-cols-other_cols
 returns-then-cols-other_cols c =
