@@ -1,5 +1,5 @@
 //! The system's limit of the size of files (`ulimit -f`).
-ghost use Rattle.std.specs.Prelude.{◌≤◌, length, IfOk};
+ghost use Rattle.std.specs.Prelude.{◌≡◌, length, take, IfOk};
 
 use libc::types::rlimit;
 use std::io;
@@ -31,7 +31,7 @@ pub(crate) fn too_large() -> io::Error {
 ///
 /// That of the system where the limit allows none of them.
 pub fn within_limit(at: u64, bytes: &[u8]) -> io::Result<&[u8]>
-    ensures { IfOk result (λ within. length within.now ≤ length bytes.now) }
+    ensures front { IfOk result (λ within. within.now ≡ take (length within.now) bytes.now) }
 {
     let allowed = most_bytes().saturating_sub(at);
     if allowed >= bytes.len() as u64 {

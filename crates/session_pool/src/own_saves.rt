@@ -1,5 +1,4 @@
 //! Saves that nobody asks for.
-ghost use Rattle.std.specs.Prelude.{◌≡◌};
 
 use crate::disk::Disk;
 use crate::saver::Saver;

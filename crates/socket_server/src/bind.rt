@@ -198,6 +198,13 @@ fn bind_given_path<R: Host + Net, W: Sink>(
     Ok((Some(watched), Some(waker), Some(own)))
 }
 
+// Removes the path of a Unix socket that was bound.
+fn remove_bound(host: &impl Host, own: Option<OwnPath>) {
+    if let Some(own) = own {
+        own.remove(host);
+    }
+}
+
 // The listener and the waker, apart.
 fn parted<L>(
     made: Option<(WatchedListener<L>, Waker)>,
@@ -249,9 +256,7 @@ pub fn bind_listeners<R: Host + Net<Listener = TcpListener, Stream = TcpStream>,
         ending,
     };
     let Ok(shared) = Arc::new(alloc, shared) else {
-        if let Some(own) = own {
-            own.remove(rt);
-        }
+        remove_bound(rt, own);
         return Err(ServerFault::Memory);
     };
     Ok(Listeners {

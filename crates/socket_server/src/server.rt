@@ -304,14 +304,9 @@ fn plan_of(settings: Settings, identity: Identity, failure: SaveFailure, counter
     let Settings {
         tcp,
         unix,
-        numbers: _,
-        workers: _,
         compactors,
         snapshot,
         log,
-        must_load: _,
-        must_save: _,
-        lock_wait: _,
         sessions,
         fold_above,
         save_log_above,
@@ -320,6 +315,7 @@ fn plan_of(settings: Settings, identity: Identity, failure: SaveFailure, counter
         drain,
         events,
         ending,
+        ..
     } = settings;
     Plan {
         places: Places {
