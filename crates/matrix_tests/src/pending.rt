@@ -17,6 +17,9 @@ use test_support::{same, same_at};
 /// The numbers of rows and of columns.
 const SIDE: u64 = 1 << 20;
 
+/// So many cells may wait, that not only sums of millions go into the layers.
+const MOST: usize = 1 << 17;
+
 /// A stream of lists of cells of count 1, whose places come again in turn.
 #[derive(Clone, Copy, Debug)]
 struct Stream {
@@ -95,7 +98,8 @@ fn sum_of(
     stream: Stream,
     as_matrices: bool,
 ) -> Result<Vec<Cell>, CascadeFault> {
-    let mut layers = PendingLayers::new(alloc, SIDE, SIDE, cuts, expected)?;
+    let made = PendingLayers::new(alloc, SIDE, SIDE, cuts, expected)?;
+    let mut layers = made.with_most(MOST);
     for number in 0..stream.lists {
         let Ok(list) = stream.list(alloc, number) else {
             drop(layers);

@@ -1,9 +1,9 @@
 //! `sum`: reads a text, adds its cells into layers block by block, and writes the canonical text of the sum.
 //!
-//! Memory goes to the layers, to one block, and to the latest cells, at most 2^21, which wait in a list before they go
-//! into the layers; and at the end to one list of the cells of all layers and of those that wait, and to as much again
-//! while it is sorted. A place whose cells are in several layers has several in that list. The time is that of one pass
-//! over the text, of the additions that the cuts ask for, of the sort, and of one pass over the sum.
+//! Memory goes to one block and to the latest cells, at most 2^23, which wait in a list: of so many distinct places, and
+//! of more that come again, nothing else takes any. Of more the layers do too; and at the end one list of the cells of
+//! all layers and of those that wait, and half as much again while these are merged. The time is that of one pass over
+//! the text, of the sort, of the additions that the cuts ask for, and of one pass over the sum.
 ghost use Rattle.std.specs.Prelude.{◌≡◌, ℕ, ◌+◌, ◌<◌, ◌^◌, ◌⊎◌, ◌↔◌, List, [], Err, OnOk, IfOk, IfErr};
 ghost use Rattle.mm_text.specs.declared.size.Size.{Size};
 ghost use Rattle.byte_io.specs.Writing.{HasTaken, HasStopped};
@@ -40,11 +40,10 @@ fn read_running<R: Source>(alloc: Global, r: &mut R, cuts: &[u64]) -> Result<Run
 
 /// Sums the cells of a Matrix Market text, and writes the canonical text of the sum.
 ///
-/// The cells of the text's list go into layers with these cuts (none to seven, rising, each 1 to 2^40 entries), in
-/// blocks of at most 4,096, which wait in a list until it has twice as many cells as the last cut says, at least
-/// 131,072 and at most 2^21, and 2^21 where there is no cut. Where places come again the list is added up earlier. Then
-/// all is put into one list and written, its cells by row and then by column. The cuts decide time and memory, and
-/// never what is written.
+/// The cells of the text's list wait in a list of at most 2^23, 24 bytes each, in blocks of at most 4,096 as they come.
+/// Where places come again the list is added up earlier; where it is full of places that don't, it goes into layers
+/// with these cuts (none to seven, rising, each 1 to 2^40 entries). Then all is put into one list and written, its
+/// cells by row and then by column. The cuts decide time and memory, and never what is written.
 ///
 /// # Errors
 ///

@@ -1,12 +1,8 @@
 //! How many cells wait.
 
-/// Cells: the fewest that `PendingLayers` lets wait in its list where their places differ, however low the cuts are.
-/// The list takes 24 bytes for each, and as much again while it is sorted: some 6 MB.
-pub const LEAST_PENDING: u64 = 1 << 17;
-
-/// Cells: the most that `PendingLayers` lets wait, however high the last cut is, but for those of one addition that is
-/// larger by itself. With the memory of the sort some 100 MB.
-pub const MAX_PENDING: u64 = 1 << 21;
+/// Cells: the most that `PendingLayers` lets wait, but for those of one addition that is larger by itself. Memory bounds
+/// them, and not the cuts: at 24 bytes for each the list takes some 200 MB when it is full.
+pub const MAX_PENDING: usize = 1 << 23;
 
 /// Cells: so many wait at least before the list is added up. The first time tells whether places come again.
 pub const FIRST_DUE: usize = 1 << 16;

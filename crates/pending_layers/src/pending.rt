@@ -18,7 +18,7 @@ ghost use Rattle.hyper_matrix.specs.Matrix.{matrix};
 ghost use Rattle.layer_compaction.specs.Shared.{content};
 ghost use Rattle.layer_cascade.specs.Cuts.{AreCuts};
 
-use crate::limits::{FIRST_DUE, LEAST_PENDING, MAX_PENDING, SPARED_SHARE};
+use crate::limits::{FIRST_DUE, MAX_PENDING, SPARED_SHARE};
 use cells::{Cell, into_summed, rises, total_of};
 use hyper_matrix::Hyper;
 use layer_cascade::{CascadeFault, Layers};
@@ -55,15 +55,6 @@ impl Model for PendingLayers {
     ghost invariant = { λ a. KeepsPending a.layers a.pending.items a.total };
 }
 
-// How many cells may wait before layers with these cuts: twice the last cut, so that their matrix is in the last layer
-// at once, from `LEAST_PENDING` to `MAX_PENDING`, and as many as this where there is no cut.
-fn most_pending(cuts: &[u64]) -> usize {
-    match cuts.last() {
-        Some(cut) => cut.saturating_mul(2).max(LEAST_PENDING).min(MAX_PENDING) as usize,
-        None => MAX_PENDING as usize,
-    }
-}
-
 // How many cells may wait before the list is added up again, where adding up so many has left so many, and at most so
 // many may wait.
 fn next_due(before: usize, left: usize, most: usize) -> usize {
@@ -95,9 +86,9 @@ impl PendingLayers {
     /// Nothing yet, in layers as `Layers::new` makes them: one more than there are cuts, of these numbers of rows and
     /// columns, each from 1 to 2^60.
     ///
-    /// The cuts decide time and memory. Twice as many cells may wait in the list as the last cut says, at least 131,072
-    /// and at most 2^21, and 2^21 where there is no cut. For `expected` cells, or as many of them as may wait, room is
-    /// made at once, 24 bytes for each: with 0 it is made as they come. It is a hint, and bounds nothing.
+    /// At most `MAX_PENDING` cells wait in the list, whatever the cuts are: these decide the time of what comes once as
+    /// many have passed. For `expected` cells, or as many of them as may wait, room is made at once, 24 bytes for each:
+    /// with 0 it is made as they come. It is a hint, and bounds nothing.
     ///
     /// # Errors
     ///
@@ -117,15 +108,28 @@ impl PendingLayers {
         ensures cuts { (result ≡ Err CascadeFault.BadCuts) ↔ (AreCuts cuts.now → ⊥) }
     {
         let layers = Layers::new(alloc, rows, cols, cuts)?;
-        let most = most_pending(cuts);
-        let pending = Vec::with_capacity(alloc, expected.min(most as u64) as usize)?;
+        let pending = Vec::with_capacity(alloc, expected.min(MAX_PENDING as u64) as usize)?;
         Ok(PendingLayers {
             layers,
             pending,
             total: 0,
             due: FIRST_DUE,
-            most,
+            most: MAX_PENDING,
         })
+    }
+
+    /// The same, where at most so many cells wait from now on, but for those of one addition that is larger by itself. It
+    /// decides time and memory alone.
+    pub fn with_most(self, most: usize) -> PendingLayers
+        ensures { result ≡ self }
+    {
+        PendingLayers {
+            layers: self.layers,
+            pending: self.pending,
+            total: self.total,
+            due: self.due.min(most),
+            most,
+        }
     }
 
     /// The numbers of rows and of columns, each from 1 to 2^60. Constant time.

@@ -229,9 +229,9 @@ fn write_check<W: Sink>(
 /// Reads the snapshot in a file, and writes the line `rows R cols C shards K batches B total T entries E`, where B and
 /// T count folded batches too, and E is the number of cells of the sum of all.
 ///
-/// Takes the memory of the list, of layers with the cuts 4,096, 65,536 and 1,048,576, and of a list of at most 2^21
-/// cells that wait before them, or as many as the base or one batch has; and at the end of one list of all cells in
-/// these layers and that list: 24 bytes each, and as much again while it is sorted.
+/// Takes the memory of the list, of at most 2^23 cells that wait, or as many as the base or one batch has, and where
+/// more come of layers with the cuts 4,096, 65,536 and 1,048,576; and at the end of one list of all cells in these
+/// layers and that list: 24 bytes each, and half as much again while they are merged.
 ///
 /// # Errors
 ///
