@@ -283,9 +283,22 @@ FIRING = {
 }
 
 
+# Values of a server that is well, of which no alert may come.
+QUIET = {
+    "hhm_up": "1x120", "hhm_uptime_seconds": "60+60x120", "hhm_failed_saves_total": "3x120", "hhm_batches": "79+0x120",
+    "hhm_max_batches": "100x120", "hhm_total": "79x120", "hhm_limit": "100x120", "hhm_batches_left_days": "8x120",
+    "hhm_total_left_days": "8x120", "hhm_log_bytes_left_days": "8x120", "hhm_log_bytes_left": "819200x120",
+    "hhm_log_pages": "40x120", "hhm_save_age_seconds": "80000x120", "hhm_saved_batches": "70x120",
+    "hhm_sessions_waiting": "0x120", "hhm_status_seconds": "0.5x120",
+    **{f'hhm_refused_total{{name="{it}"}}': "5x120" for it in ("LogFailed", "LogFull", "Memory", "NumberReused")},
+}
+
+
 def alerts_fire(path, names):
-    """Each alert fires where its numbers say so, by promtool's own test of rules."""
-    tests = []
+    """Each alert fires where its numbers say so, and none of a server that is well, by promtool's own test of rules."""
+    quiet = [{"series": it, "values": values} for it, values in QUIET.items()]
+    tests = [{"interval": "1m", "input_series": quiet, "promql_expr_test": [
+        {"expr": "count(ALERTS)", "eval_time": "2h", "exp_samples": []}]}]
     check("alerts: each has values that make it fire", set(FIRING), names)
     for name, series in FIRING.items():
         given = [{"series": it, "values": values} for it, values in {"hhm_up": "1x120", **series}.items()]

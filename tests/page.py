@@ -124,8 +124,8 @@ def what_is_told_is_shown(page, metrics_of):
         check("shown: a save that failed", page.until(f"{bad} === 'Refused Sessions Last save Durable'"), True)
         at.stats = {**TOLD, "log_bytes_left": 4096}
         check("shown: a log that fills", page.until(f"{bad}.startsWith('Log left ')"), True)
-        left = "[...document.querySelectorAll('#tiles div')].find((it) => it.querySelector('dt').textContent === 'Log left')"
-        words = page.value(f"{left}.querySelector('small').textContent")
+        tile = "[...document.querySelectorAll('#tiles div')].find((it) => it.firstChild.textContent === 'Log left')"
+        words = page.value(f"{tile}.querySelector('small').textContent")
         check(f"shown: {words}", bool(re.fullmatch(r"0(\.\d\d?)? days at the last hour's rate", words)), True)
 
 
