@@ -376,8 +376,10 @@ function drawTiles(now) {
   tile("Batches", big(now.batches), more(now.rates.batches, full), full > 0.95);
   tile("Total", brief(now.total), more(now.rates.total, high), high > 0.95);
   const lefts = {batches_left: "Batches left", total_left: "Total left", log_bytes_left: "Log left"};
-  for (const [name, left, days] of now.left) tile(lefts[name],
-    name === "log_bytes_left" ? bytes(Number(left)) : brief(left), days === null ? "" : daysLeft(days), days !== null && days < 1);
+  for (const [name, left, days] of now.left) {
+    const value = name === "log_bytes_left" ? bytes(Number(left)) : brief(left);
+    tile(lefts[name], value, days === null ? "" : daysLeft(days), days !== null && days < 1);
+  }
   if (now.rates.cells !== null) tile("Cells put", number("cells"), big(now.rates.cells) + " a second");
   tile("Repeats", number("repeats"));
   tile("Refused", number("refused"), now.refused.map((it) => it[0] + " " + big(it[1])).join(", "),
