@@ -371,7 +371,8 @@ class NoRoom(StandIn):
 def a_failure_has_its_reason():
     """The reason of a refusal that a server tells, by `stats`, `watch`, `metrics`, and a save that is refused."""
     raw = "".join(f"{name} {value}\n" for name, value in FAILURES.items())
-    for told, why in [(FAILURES, " (no-space)"), ({}, ""), (None, "")]:
+    unheard = {'last_failure{code="42",why="unheard-of"}': 1}
+    for told, why in [(FAILURES, " (the disk is full)"), (unheard, " (unheard-of)"), ({}, ""), (None, "")]:
         with NoRoom(stats=told) as at:
             output = run([*HHMC, "--unix", at.path, "save"])
             check(f"failure: save, {told}", output, ("", f"refused: SaveFailed{why}\n", 1))
@@ -381,7 +382,7 @@ def a_failure_has_its_reason():
     with NoRoom(stats=FAILURES) as at, Metrics(at.path) as metrics:
         check("failure: stats", run([*HHMC, "--unix", at.path, "stats"]), (raw, "", 0))
         with Screen([*HHMC, "--unix", at.path, "stats"], keys=b"") as screen:
-            check("failure: stats on a terminal", screen.until("last SaveFailed: no-space"), True)
+            check("failure: stats on a terminal", screen.until("last SaveFailed: the disk is full"), True)
         check("failure: its end", screen.status, 0)
         output = run([*HHMC, "--unix", at.path, "watch", "--once", "--every", "0.1"])[0]
         last = [it for it in output.splitlines() if it.startswith("last ")]

@@ -272,14 +272,15 @@ def show(piece: bytes) -> None:
 
 
 def reason_of(given: argparse.Namespace, refused: Refused) -> str:
-    """Why the server refused, in the word that its stats have for that; nothing where they have none."""
+    """Why the server refused, as its stats have it; nothing where they don't."""
     if refused.name not in REASONED:
         return ""
     words = []
     with contextlib.suppress(OSError, Refused):
         with Client(tcp=given.tcp, unix=given.unix, timeout=SILENCE, attempts=1) as hhm:
             stats = hhm.stats()
-        words = [why for name, why in module_of("hhm_figures").failures_of(stats) if name == refused.name]
+        figures = module_of("hhm_figures")
+        words = [figures.REASONS.get(why, why) for name, why in figures.failures_of(stats) if name == refused.name]
     return f" ({words[-1]})" if words else ""
 
 

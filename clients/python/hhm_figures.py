@@ -31,6 +31,14 @@ KEPT = 600
 MINUTE, MINUTES = 60.0, 1440
 OF_MINUTES = ("resident_bytes", "log_bytes_left")
 HOUR, DAY = 3600.0, 86400.0
+# What the words of servers for the reasons of refusals say. One that isn't here is shown as it is.
+REASONS = {
+    "no-space": "the disk is full", "quota": "the quota of the disk is used up", "file-size": "a limit of file sizes",
+    "permission": "the server may not write there", "read-only": "the disk is read-only", "device": "the disk failed",
+    "no-folder": "the folder isn't there", "moved": "the log was moved, replaced or cut",
+    "other-book": "the log under that path is another book's", "limit": "--limit is reached",
+    "max-batches": "--max-batches is reached",
+}
 
 
 class Moment(NamedTuple):
