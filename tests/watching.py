@@ -307,7 +307,8 @@ def what_is_left_lasts_for_days():
         check(f"left: {name}", lefts_of(these), [Left(it, 86_400, None) for it in told])
     check("left: an earlier server", lefts_of([moment_of(0, 0), moment_of(10, 5)]), [])
     check("left: a word", lefts_of([moment_of(0, 0), moment_of(10, 5, batches_left="many")]), [])
-    check("left: nothing", lefts_of([moment_of(0, 0), moment_of(10, 5, batches_left=0)]), [Left("batches_left", 0, 0.0)])
+    full = [moment_of(0, 0), moment_of(10, 5, batches_left=0)]
+    check("left: nothing", lefts_of(full), [Left("batches_left", 0, 0.0)])
     looks = [moment_of(0, 1000), moment_of(50, 9000), moment_of(60, 3), moment_of(70, 8, batches_left=43_200)]
     check("left: another book", lefts_of(looks), [Left("batches_left", 43_200, 1.0)])
     logs = [moment_of(0, 0, log_bytes_left=5000), moment_of(50, 1, log_bytes_left=4000)]
@@ -397,8 +398,8 @@ def a_failure_has_its_reason():
 def unknown_lines_break_nothing():
     """Names and labels of a later server that this client doesn't know."""
     odd = {"unheard": 7, "a.b": 1, 'refused_total{code="x"}': 3, "refused_total{}": 1, 'refused_total{code="777"}': 2,
-           'shard_layer_entries{shard="x",layer="1"}': 4, "shard_layer_runs{}": 1, 'last_failure{code="x",why="a b"}': 1,
-           "last_failure": 1, "batches_left": "many", "log_bytes_left": "1.5", 'book{id="odd"}': 1}
+           'shard_layer_entries{shard="x",layer="1"}': 4, "shard_layer_runs{}": 1,
+           'last_failure{code="x",why="a b"}': 1, "last_failure": 1, "batches_left": "many", "log_bytes_left": "1.5", 'book{id="odd"}': 1}
     with StandIn(stats=odd) as at, Metrics(at.path) as metrics:
         output, error, status = run([*HHMC, "--unix", at.path, "watch", "--once", "--every", "0.1"])
         check("unknown: watch", (error, status), ("", 0))
