@@ -19,6 +19,8 @@ import threading
 import time
 
 import server
+import hhm_backup
+from peers import until
 from server import Server, check
 
 TOP = os.path.dirname(server.HERE)
@@ -51,8 +53,8 @@ class Files:
         os.mkdir(self.backups)
         self.words = [*LARGE, "--snapshot", self.snap, "--log", self.log]
 
-    def serve(self):
-        return Server(self.words, tcp=False)
+    def serve(self, *more):
+        return Server([*self.words, *more], tcp=False)
 
     def backup(self, *more, program=None, **how):
         words = [sys.executable, HHMC, "backup", self.backups, self.snap, self.log]
@@ -70,11 +72,11 @@ def counted(line):
 
 
 class Feeder(threading.Thread):
-    """Puts batches of one cell each, a hundred at a time, and saves now and then; until it is told to end."""
+    """Puts batches of 50 cells each, a hundred at a time, and where it is told so saves now and then; until its end."""
 
-    def __init__(self, at):
+    def __init__(self, at, saves):
         super().__init__()
-        self.at, self.accepted, self.is_over = at, 0, False
+        self.at, self.saves, self.accepted, self.is_over = at, saves, 0, False
 
     def run(self):
         with self.at.client(1) as hhm:
@@ -82,32 +84,51 @@ class Feeder(threading.Thread):
                 first = self.accepted
                 for number, _ in hhm.put_all(((n, [(n, n, 1)] * 50) for n in range(first, first + 100)), depth=64):
                     self.accepted = number + 1
-                if first % 2000 == 0:
+                if self.saves and first % 2000 == 0:
                     hhm.save()
 
 
-def backups_beside_puts_have_all():
+def backups_beside_puts_have_all(name, *words, saves=True):
     """Backups of a server that takes batches, and saves: each has what was answered before, and starts a server."""
-    files = Files("busy")
-    with files.serve() as at:
-        feeder = Feeder(at)
+    files = Files(name)
+    with files.serve(*words) as at, at.client(2) as other:
+        feeder = Feeder(at, saves)
         feeder.start()
         try:
-            for _ in range(4):
+            for turn in range(4):
+                # (so that a save comes between any two, by the second look at the log's length at the latest)
+                saved = until(lambda: other.stats()["saves_total"] >= turn, True)
                 before = feeder.accepted
                 output, error, status = files.backup("--keep", "3")
                 folder, batches, total = counted(output)
-                check("beside puts", (error, status, batches >= before, total), ("", 0, True, 50 * batches))
+                found = saved, error, status, batches >= before, total
+                check(f"{name}: beside puts", found, (True, "", 0, True, 50 * batches))
         finally:
             feeder.is_over = True
             feeder.join()
-        check("beside puts: something was put", feeder.accepted > 100, True)
-    check("beside puts: three are kept", [len(files.kept()), f"{files.backups}/{files.kept()[-1]}"], [3, folder])
-    check("beside puts: their names", [it for it in files.kept() if not NAME.fullmatch(it)], [])
-    again = Files("again")
+        check(f"{name}: something was put", feeder.accepted > 100, True)
+    check(f"{name}: three are kept", [len(files.kept()), f"{files.backups}/{files.kept()[-1]}"], [3, folder])
+    check(f"{name}: their names", [it for it in files.kept() if not NAME.fullmatch(it)], [])
+    again = Files(f"{name}-again")
     again.words = [*LARGE, "--snapshot", f"{folder}/sum.snap", "--log", f"{folder}/sum.hhmlog"]
     with again.serve() as at, at.client(1) as hhm:
-        check("beside puts: a server from the last", hhm.status(), (batches, total))
+        check(f"{name}: a server from the last", hhm.status(), (batches, total))
+        first = hhm.put(before - 1, [(before - 1, before - 1, 1)] * 50)
+        check(f"{name}: what was answered before it is known", first, (before - 1, 50 * before))
+
+
+def the_end_of_a_file_is_read_first():
+    """A copy has the bytes that were there, whatever its end and its pieces; and what comes meanwhile isn't in it."""
+    source, target = (os.path.join(server.FOLDER, it) for it in ("source", "target"))
+    had = hhm_backup.TAIL, hhm_backup.PIECE
+    hhm_backup.TAIL, hhm_backup.PIECE = 100, 7
+    for size in (0, 1, 99, 100, 101, 107, 300):
+        content = bytes(range(256))[:size] + bytes(max(0, size - 256))
+        with open(source, "wb") as file:
+            file.write(content)
+        hhm_backup.copy_file(source, target)
+        check(f"a copy of {size} bytes", server.content(target) == content, True)
+    hhm_backup.TAIL, hhm_backup.PIECE = had
 
 
 def a_copy_is_made_again(files):
@@ -139,6 +160,13 @@ def what_fails_leaves_the_last_backup(files):
     log, files.log = files.log, f"{files.folder}/none"
     check("no log", files.backup(), ("", f"failed: {files.log}: No such file or directory\n", 4))
     files.log = log
+    snap, files.snap = files.snap, f"{files.folder}/none"
+    check("no snapshot", files.backup(), ("", f"failed: {files.snap}: No such file or directory\n", 4))
+    files.snap = "-"
+    # (the save that began the log had one batch)
+    told = f"{files.log}: hhm: log: Gap at batch 1, in each of 10 copies: no backup was made\n"
+    check("without the snapshot that goes with the log", files.backup(), ("", told, 3))
+    files.snap = snap
     told = "/nothing, which checks the copy, can't be run: give --program FILE\n"
     check("no program", files.backup(program="/nothing"), ("", told, 4))
     check("one name", ran(sys.executable, HHMC, "backup", files.backups, files.log, files.log)[2], 2)
@@ -183,9 +211,21 @@ def backups_of_few_batches():
         os.chmod(files.snap, 0o640)
         check("two backups stay", [counted(files.backup()[0])[1:] for _ in range(2)], [(2, 12)] * 2)
         check("two backups stay: the folder", len(files.kept()), 2)
+    a_log_alone_is_copied()
     a_copy_is_made_again(files)
     what_fails_leaves_the_last_backup(files)
     files_are_copied_as_they_are(files)
+
+
+def a_log_alone_is_copied():
+    """Of a server without a path for snapshots, by `-` in its place."""
+    files = Files("alone")
+    files.words, files.snap = [*LARGE, "--log", files.log], "-"
+    with files.serve() as at, at.client(1) as hhm:
+        hhm.put(1, [(0, 0, 5)])
+        output, error, status = files.backup()
+        check("a log alone", (counted(output)[1:], error, status), ((1, 5), "", 0))
+    check("a log alone: what is copied", os.listdir(os.path.join(files.backups, files.kept()[0])), ["sum.hhmlog"])
 
 
 # The commands of docs/OPERATING.md.
@@ -329,7 +369,9 @@ def contents_lead_to_sections():
 def all_are_tried():
     contents_lead_to_sections()
     backups_of_few_batches()
-    backups_beside_puts_have_all()
+    backups_beside_puts_have_all("saved-by-a-client", "--save-log-above", "0")
+    backups_beside_puts_have_all("saves-by-itself", "--save-log-above", "200000", saves=False)
+    the_end_of_a_file_is_read_first()
     commands_of_operating()
 
 

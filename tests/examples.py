@@ -206,7 +206,29 @@ def names_that_are_written():
             looker.seen.hhm.close()
         text = metrics_of([looker])
     check("metrics: a refusal by its name", 'hhm_refused_total{code="30",name="NumberReused"} 1\n' in text, True)
+    return names_in(text) | names_of_what_is_left()
+
+
+def names_in(text):
     return {METRIC.match(line)[0] for line in text.splitlines() if not line.startswith("#")}
+
+
+def names_of_what_is_left():
+    """The metrics of what is left, and of a failure, of a server in Python that tells them. A batch comes between two
+    looks, and a page of its log."""
+    from hhm_client import Client
+    from hhm_figures import Watched
+    from hhm_metrics import Looker, metrics_of
+    from stand_in import StandIn
+
+    told = {"batches_left": 9, "total_left": 9, "log_bytes_left": 9000, 'last_failure{code="42",why="no-space"}': 1}
+    with StandIn(stats=told) as at, Client(unix=at.path, client=1) as hhm:
+        looker = Looker(Watched(hhm), 1.0)
+        looker.look()
+        hhm.put(1, [(0, 0, 5)])
+        at.stats = {**told, "log_bytes_left": 4904}
+        looker.look()
+        return names_in(metrics_of([looker]))
 
 
 def unknown_names(expression, names):
@@ -236,7 +258,7 @@ def alerts(names):
         return
     path = os.path.join(TOP, "examples", "prometheus", "alerts.yml")
     check("alerts: promtool", ran("promtool", "check", "rules", path)[::2], (0, ""))
-    alerts_fire(path)
+    alerts_fire(path, {it["alert"] for it in rules})
 
 
 # For each alert values of metrics, one a minute, that make it fire in two hours.
@@ -250,6 +272,9 @@ FIRING = {
     "HhmBookFull": {"hhm_batches": "96x120", "hhm_max_batches": "100x120"},
     "HhmBookFills": {"hhm_total": "81x120", "hhm_limit": "100x120"},
     "HhmBookFullInAWeek": {"hhm_batches": "0+1x120", "hhm_max_batches": "9000x120"},
+    "HhmFullInADay": {"hhm_batches_left_days": "_x100 0.9x20"},
+    "HhmFullInAWeek": {"hhm_total_left_days": "8x50 6x70", "hhm_log_bytes_left_days": "9x120"},
+    "HhmLogFills": {"hhm_log_bytes_left": "819200x120", "hhm_log_pages": "900x120"},
     "HhmNumberReused": {'hhm_refused_total{name="NumberReused"}': "0x115 1x5"},
     "HhmNotSaved": {"hhm_save_age_seconds": "90000x120", "hhm_batches": "2x120", "hhm_saved_batches": "1x120"},
     "HhmLogLong": {"hhm_log_pages": "300000x120"},
@@ -258,9 +283,23 @@ FIRING = {
 }
 
 
-def alerts_fire(path):
-    """Each alert fires where its numbers say so, by promtool's own test of rules."""
-    tests = []
+# Values of a server that is well, of which no alert may come.
+QUIET = {
+    "hhm_up": "1x120", "hhm_uptime_seconds": "60+60x120", "hhm_failed_saves_total": "3x120", "hhm_batches": "79+0x120",
+    "hhm_max_batches": "100x120", "hhm_total": "79x120", "hhm_limit": "100x120", "hhm_batches_left_days": "8x120",
+    "hhm_total_left_days": "8x120", "hhm_log_bytes_left_days": "8x120", "hhm_log_bytes_left": "819200x120",
+    "hhm_log_pages": "40x120", "hhm_save_age_seconds": "80000x120", "hhm_saved_batches": "70x120",
+    "hhm_sessions_waiting": "0x120", "hhm_status_seconds": "0.5x120",
+    **{f'hhm_refused_total{{name="{it}"}}': "5x120" for it in ("LogFailed", "LogFull", "Memory", "NumberReused")},
+}
+
+
+def alerts_fire(path, names):
+    """Each alert fires where its numbers say so, and none of a server that is well, by promtool's own test of rules."""
+    quiet = [{"series": it, "values": values} for it, values in QUIET.items()]
+    tests = [{"interval": "1m", "input_series": quiet, "promql_expr_test": [
+        {"expr": "count(ALERTS)", "eval_time": "2h", "exp_samples": []}]}]
+    check("alerts: each has values that make it fire", set(FIRING), names)
     for name, series in FIRING.items():
         given = [{"series": it, "values": values} for it, values in {"hhm_up": "1x120", **series}.items()]
         tests.append({"interval": "1m", "input_series": given, "promql_expr_test": [

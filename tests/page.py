@@ -23,7 +23,8 @@ TOLD = {
     "saves_total": 2, "failed_saves_total": 1, "saved_batches": 0, "save_age_seconds": "61.2", "log_durable_batches": 7,
     "log_pages": 12, "log_room_pages": 4096, "log_syncs_total": 8, "log_group_batches": 3, "<b>odd</b>": 1,
     "received_bytes_total": 1_500_000, "sent_bytes_total": 2_000, "log_failed": 1,
-    "limit": (1 << 64) - 1, "max_batches": 1000,
+    "limit": (1 << 64) - 1, "max_batches": 1000, "batches_left": 1000, "total_left": (1 << 64) - 1,
+    "log_bytes_left": 1_099_511_623_680,
     **{f'shard_layer_entries{{shard="{shard}",layer="{layer}"}}': 1000 * shard + layer
        for shard in range(12) for layer in range(3)},
     **{f'shard_layer_runs{{shard="{shard}",layer="{layer}"}}': shard for shard in range(12) for layer in range(3)},
@@ -31,6 +32,7 @@ TOLD = {
 SHOWN = {
     "Batches": "0", "Total": "0", "Cells put": "1,234,567", "Repeats": "12", "Refused": "3,002", "Sessions": "2 open",
     "Memory": "231 MB", "Last save": "1 min 1 s ago", "Received": "1.5 MB", "Sent": "2 kB", "Durable": "7 batches",
+    "Batches left": "1,000", "Total left": "18.4 E", "Log left": "1.1 TB",
 }
 TILES = ("Object.fromEntries([...document.querySelectorAll('#tiles div')].map((it) => [it.querySelector('dt')"
          ".textContent, it.querySelector('dd').firstChild.textContent]))")
@@ -103,6 +105,9 @@ def what_is_told_is_shown(page, metrics_of):
                                      ("'18446744073709551615'", "18.4 E", "18,446,744,073,709,551,615")]:
             briefly = f"[brief({number}).textContent, brief({number}).getAttribute('title')]"
             check(f"shown: {number}", page.value(briefly), [words, title])
+        days = page.value("[0.123, 6.5, 42.25, 213503982.3].map(daysLeft)")
+        wanted = [f"{it} days at the last hour's rate" for it in ("0.12", "6.5", "42.3", "213,503,982")]
+        check("shown: days", days, wanted)
         version = "version 1.2.3, up 1 h 2 min, 1,152,921,504,606,846,976 rows by 5 columns"
         check("shown: version", page.value("document.getElementById('version').textContent"), version)
         layers = [["All", "66,000", "66,012", "66,024"]]
@@ -117,6 +122,11 @@ def what_is_told_is_shown(page, metrics_of):
         check("shown: a refusal and a save", page.until(f"{bad} === 'Refused Sessions Durable'"), True)
         at.stats = {**TOLD, 'refused_total{code="30"}': 3, "saves_total": 3, "failed_saves_total": 2}
         check("shown: a save that failed", page.until(f"{bad} === 'Refused Sessions Last save Durable'"), True)
+        at.stats = {**TOLD, "log_bytes_left": 4096}
+        check("shown: a log that fills", page.until(f"{bad}.startsWith('Log left ')"), True)
+        tile = "[...document.querySelectorAll('#tiles div')].find((it) => it.firstChild.textContent === 'Log left')"
+        words = page.value(f"{tile}.querySelector('small').textContent")
+        check(f"shown: {words}", bool(re.fullmatch(r"0(\.\d\d?)? days at the last hour's rate", words)), True)
 
 
 def raw(told):

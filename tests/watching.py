@@ -22,7 +22,7 @@ import xml.etree.ElementTree
 import page
 import server
 from hhm_client import Client, Status
-from hhm_figures import KEPT, Moment, Watched, rate_of
+from hhm_figures import HOUR, KEPT, Left, Moment, Watched, lefts_of, rate_of
 from hhm_metrics import Looker, series_of
 from hhm_rates import rates_of
 from peers import WAIT, run, until
@@ -279,16 +279,138 @@ def several_servers_are_told():
 
 def a_day_is_kept():
     """A moment a minute, at most 1,440 of them; rates by hand, and nothing over a time without answers."""
-    looker = Looker(None, 1.0)
+    seen = Watched(Client(unix="nowhere"))
     times = [1000.0 + second for second in range(0, 1441 * 60, 20)]
     for at in times:
-        looker.keep(Moment(at, Status(int(at), 3 * int(at)), {"resident_bytes": 5, "odd": 7}, 0.0, 0.0))
-    check("a day: moments", (len(looker.day), looker.day[0].at, looker.day[-1].at), (1440, 1060.0, 1000.0 + 1440 * 60))
-    check("a day: what is kept of one", looker.day[0].stats, {"resident_bytes": 5})
-    looker.keep(Moment(times[-1] + 600, Status(0, 0), {}, 0.0, 0.0))
-    series = series_of(looker.day[-4:], 0.0, 210.0)
+        told = {"resident_bytes": 5, "odd": 7, "log_bytes_left": 9}
+        seen.keep(Moment(at, Status(int(at), 3 * int(at)), told, 0.0, 0.0))
+    ends = (len(seen.minutes), seen.minutes[0].at, seen.minutes[-1].at)
+    check("a day: moments", ends, (1440, 1060.0, 1000.0 + 1440 * 60))
+    check("a day: what is kept of one", seen.minutes[0].stats, {"resident_bytes": 5, "log_bytes_left": 9})
+    seen.keep(Moment(times[-1] + 600, Status(0, 0), {}, 0.0, 0.0))
+    series = series_of(seen.minutes[-4:], 0.0, 210.0)
     rates = [None, 1.0, 1.0, None, None]
     check("a day: rates", (series["batches"], series["total"]), (rates, [rate and 3 * rate for rate in rates]))
+
+
+def moment_of(at, batches, **stats):
+    """A moment of a server whose batches have a total of 2 each."""
+    return Moment(float(at), Status(batches, 2 * batches), stats, 0.0, 0.0)
+
+
+def what_is_left_lasts_for_days():
+    """The days that are left, by hand: at the rate of the last hour, and where fewer seconds were seen at theirs."""
+    told = {"batches_left": 86_400, "total_left": 86_400}
+    looks = [moment_of(0, 0), moment_of(10, 5, **told)]
+    check("left: ten seconds", lefts_of(looks), [Left("batches_left", 86_400, 2.0), Left("total_left", 86_400, 1.0)])
+    for name, these in [("one look", looks[1:]), ("nothing new", [moment_of(0, 5), looks[1]])]:
+        check(f"left: {name}", lefts_of(these), [Left(it, 86_400, None) for it in told])
+    check("left: an earlier server", lefts_of([moment_of(0, 0), moment_of(10, 5)]), [])
+    check("left: a word", lefts_of([moment_of(0, 0), moment_of(10, 5, batches_left="many")]), [])
+    full = [moment_of(0, 0), moment_of(10, 5, batches_left=0)]
+    check("left: nothing", lefts_of(full), [Left("batches_left", 0, 0.0)])
+    looks = [moment_of(0, 1000), moment_of(50, 9000), moment_of(60, 3), moment_of(70, 8, batches_left=43_200)]
+    check("left: another book", lefts_of(looks), [Left("batches_left", 43_200, 1.0)])
+    logs = [moment_of(0, 0, log_bytes_left=5000), moment_of(50, 1, log_bytes_left=4000)]
+    check("left: a log", lefts_of(logs), [Left("log_bytes_left", 4000, 200 / 86_400)])
+    logs.append(moment_of(100, 2, log_bytes_left=4500))
+    check("left: a log that was begun anew", lefts_of(logs), [Left("log_bytes_left", 4500, None)])
+    logs = [moment_of(it, it, log_bytes_left=9000 - it) for it in range(0, 3 * 3600, 3600)]
+    check("left: a look an hour", lefts_of(logs), [Left("log_bytes_left", 1800, 1800 / 86_400)])
+
+
+def an_hour_is_kept():
+    """Of two hours of looks the second counts: 1,000 batches a minute before, and 10 a minute since."""
+    seen = Watched(Client(unix="nowhere"))
+    for at in range(0, 7201, 5):
+        batches = at * 1000 // 60 if at < 3600 else 60_000 + (at - 3600) // 6
+        moment = moment_of(at, batches, batches_left=72_000, total_left=2880, log_bytes_left=1_440_000_000 - at * 1000)
+        seen.moments = [*seen.moments[1 - KEPT // 5 :], moment]
+        seen.keep(moment)
+    # (the log grows by 86,400,000 bytes a day, and has 1,432,800,000 left)
+    days = {it.name: round(it.days, 6) for it in seen.lefts()}
+    check("an hour: days", days, {"batches_left": 5.0, "total_left": 0.1, "log_bytes_left": 16.583333})
+    check("an hour: looks", (len(seen.moments) * 5, seen.minutes[0].at, HOUR), (600, 0.0, 3600.0))
+
+
+LEFT = {"batches_left": 999_960, "total_left": (1 << 64) - 9, "log_bytes_left": 1_099_511_623_680}
+FAILURES = {'last_failure{code="42",why="no-space"}': 1, 'last_failure{code="32",why="full"}': 0}
+
+
+def what_is_left_is_told():
+    """What a server in Python tells to be left, as `watch` and `metrics` show it, with the days once something came."""
+    with StandIn(stats=LEFT) as at, Metrics(at.path) as metrics:
+        line = "batches left 999960 total left 18446744073709551607 log left 1.1 TB"
+        output = run([*HHMC, "--unix", at.path, "watch", "--once", "--every", "0.1"])[0]
+        check("left: watch", [it for it in output.splitlines() if " left " in it], [line])
+        check("left: answers", answers(metrics), None)
+        samples = metrics.samples()
+        check("left: samples", {it: samples.get(f"hhm_{it}") for it in LEFT}, {it: str(n) for it, n in LEFT.items()})
+        check("left: no days", [it for it in samples if it.endswith("_days")], [])
+        page_left = [["batches_left", 999_960, None], ["total_left", str(LEFT["total_left"]), None]]
+        check("left: the page", metrics.json()["left"], [*page_left, ["log_bytes_left", LEFT["log_bytes_left"], None]])
+        with Client(unix=at.path, client=5) as hhm:
+            hhm.put(1, [(0, 0, 7)])
+            at.stats = {**LEFT, "log_bytes_left": LEFT["log_bytes_left"] - 4096}
+        names = [f"hhm_{it}_days" for it in LEFT]
+        check("left: days", until(lambda: [it for it in metrics.samples() if it in names], names), names)
+        found = metrics.samples()
+        # (a batch and its total of 7 came in the same time)
+        ratio = float(found[names[0]]) / float(found[names[1]])
+        check("left: their ratio", abs(ratio / (999_960 * 7 / LEFT["total_left"]) - 1) < 0.01, True)
+        days = [it[2] for it in metrics.json()["left"]]
+        check("left: the page's days", all(isinstance(it, float) and it > 0 for it in days), True)
+
+
+class NoRoom(StandIn):
+    """A server whose saves fail."""
+
+    def reply(self, kind, body):
+        return server.refused(42) if kind == 6 else super().reply(kind, body)
+
+
+def a_failure_has_its_reason():
+    """The reason of a refusal that a server tells, by `stats`, `watch`, `metrics`, and a save that is refused."""
+    raw = "".join(f"{name} {value}\n" for name, value in FAILURES.items())
+    unheard = {'last_failure{code="42",why="unheard-of"}': 1}
+    for told, why in [(FAILURES, " (the disk is full)"), (unheard, " (unheard-of)"), ({}, ""), (None, "")]:
+        with NoRoom(stats=told) as at:
+            output = run([*HHMC, "--unix", at.path, "save"])
+            check(f"failure: save, {told}", output, ("", f"refused: SaveFailed{why}\n", 1))
+            kept = ": nothing was stopped; `stop --discard` stops the server without what it can't save\n"
+            output = run([*HHMC, "--unix", at.path, "stop"])
+            check(f"failure: stop, {told}", output, ("", f"refused: SaveFailed{why}{kept}", 1))
+    with NoRoom(stats=FAILURES) as at, Metrics(at.path) as metrics:
+        check("failure: stats", run([*HHMC, "--unix", at.path, "stats"]), (raw, "", 0))
+        with Screen([*HHMC, "--unix", at.path, "stats"], keys=b"") as screen:
+            check("failure: stats on a terminal", screen.until("last SaveFailed: the disk is full"), True)
+        check("failure: its end", screen.status, 0)
+        output = run([*HHMC, "--unix", at.path, "watch", "--once", "--every", "0.1"])[0]
+        last = [it for it in output.splitlines() if it.startswith("last ")]
+        check("failure: watch", last, ["last SaveFailed no-space"])
+        check("failure: answers", answers(metrics), None)
+        wanted = {'hhm_last_failure{code="42",why="no-space",name="SaveFailed"}': "1",
+                  'hhm_last_failure{code="32",why="full",name="BookFull"}': "0"}
+        found = {name: it for name, it in metrics.samples().items() if "failure" in name}
+        check("failure: metrics", found, wanted)
+
+
+def unknown_lines_break_nothing():
+    """Names and labels of a later server that this client doesn't know."""
+    odd = {"unheard": 7, "a.b": 1, 'refused_total{code="x"}': 3, "refused_total{}": 1, 'refused_total{code="777"}': 2,
+           'shard_layer_entries{shard="x",layer="1"}': 4, "shard_layer_runs{}": 1,
+           'last_failure{code="x",why="a b"}': 1, "last_failure": 1, "batches_left": "many", "log_bytes_left": "1.5", 'book{id="odd"}': 1}
+    with StandIn(stats=odd) as at, Metrics(at.path) as metrics:
+        output, error, status = run([*HHMC, "--unix", at.path, "watch", "--once", "--every", "0.1"])
+        check("unknown: watch", (error, status), ("", 0))
+        wanted = {"refused 6 x 3 ? 1 777 2", "last x a b last ? ?", "log left 2 B"}
+        check("unknown: lines", wanted - set(output.splitlines()), set())
+        check("unknown: answers", answers(metrics), None)
+        told = metrics.json()
+        check("unknown: the page", (told["layers"], told["left"]), ([], [["log_bytes_left", 1.5, None]]))
+        check("unknown: metrics", 'hhm_refused_total{code="x"} 3\n' in metrics.text("metrics"), True)
+        output, error, status = run([*HHMC, "--unix", at.path, "stats"])
+        check("unknown: stats", (len(output.splitlines()), error, status), (len(odd), "", 0))
 
 
 def what_is_wrong_passes():
@@ -372,6 +494,11 @@ def all_are_tried():
     a_failed_log_is_watched()
     several_servers_are_told()
     a_day_is_kept()
+    what_is_left_lasts_for_days()
+    an_hour_is_kept()
+    what_is_left_is_told()
+    a_failure_has_its_reason()
+    unknown_lines_break_nothing()
     what_is_wrong_passes()
     rates_are_drawn()
     page.is_tried(Metrics)

@@ -25,6 +25,7 @@ from hhm_cells import Source
 from hhm_client import (
     BY, MAX_PAGE, STATS, TOLD, Cell, Client, Ended, Refused, Status, TopRow, number, request, stats_of,
 )
+from hhm_figures import REASONS, failures_of
 from hhm_groups import Groups, Prefix, degrees_of, first_of, joined, sums_of_cols, sums_of_rows
 from hhm_words import LAST, Span, Words, count_of, version_of
 from hhm_words import add_options as add_words_options
@@ -262,7 +263,7 @@ def counts(hhm: Client, given: argparse.Namespace) -> Iterator[bytes]:
 
 
 def stats(hhm: Client, given: argparse.Namespace) -> Iterator[bytes]:
-    """The lines as they came; as JSON one object."""
+    """The lines as they came, on a terminal with the last failures in words; as JSON one object."""
 
     def told(body: bytes) -> bytes:
         stats_of(body)
@@ -274,7 +275,8 @@ def stats(hhm: Client, given: argparse.Namespace) -> Iterator[bytes]:
     if given.json:
         found = stats_of(body)
         return answered(given, tuple(found), [tuple(found.values())])
-    return iter([body])
+    words = failures_of(stats_of(body)) if sys.stdout.isatty() else []
+    return iter([body, *(f"last {name}: {REASONS.get(why, why)}\n".encode() for name, why in words)])
 
 
 def positive(word: str) -> int:

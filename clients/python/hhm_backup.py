@@ -7,8 +7,9 @@ This is the word `backup` of `hhm_client.py`, which asks no server:
 Each backup is a folder of its own below DIR, named after its time in UTC, with both files under their own names. The
 log is copied first: a save in between puts its batches into the snapshot, which is copied then. So everything that was
 answered Accepted before the backup began is in one of the two. A copy of a log in use may end amid a block that is
-being written, or miss pages of it; `hhm check` finds that, and then both are copied again. A copy has no name as a
-backup before it was checked and is on the disk, and only then earlier ones are removed.
+being written, or miss pages of it; `hhm check` finds that, and then both are copied again. So that it is rare, the end
+of a file, where a server writes, is read first and at once, however slow the disk of the copy is. A copy has no name as
+a backup before it was checked and is on the disk, and only then earlier ones are removed.
 """
 import argparse
 import contextlib
@@ -20,13 +21,15 @@ import stat
 import subprocess
 import tempfile
 import time
-from typing import Iterator, NamedTuple
+from typing import Iterator, List, NamedTuple, Optional
 
 from hhm_client import Ended
 from hhm_version import program_in_use
 
 # How often a copy is made at most, and the seconds before it is made again.
 TRIES, PAUSE = 10, 0.1
+# The bytes of a file's end that are read first, and those that are copied at once. A log has room of 16 MiB at its end.
+TAIL, PIECE = 1 << 25, 1 << 20
 # The names of backups, and what those begin with that aren't checked yet.
 NAME, FORM = re.compile(r"\d{8}T\d{6}Z"), "%Y%m%dT%H%M%SZ"
 UNCHECKED = ".unchecked-"
@@ -40,31 +43,35 @@ class Checked(NamedTuple):
 
 
 class Pair(NamedTuple):
-    """A snapshot and its log. The snapshot isn't there before the first save."""
+    """A snapshot and its log. A server without a path for snapshots has none."""
 
-    snapshot: str
+    snapshot: Optional[str]
     log: str
 
-    def below(self, folder: str) -> "Pair":
-        return Pair(*(os.path.join(folder, os.path.basename(path)) for path in self))
+    def paths(self) -> List[str]:
+        """Those that there are, the log first."""
+        return [path for path in (self.log, self.snapshot) if path is not None]
 
     def copy(self, folder: str) -> "Pair":
         """Copies the log and then the snapshot, and returns the copies once they are on the disk."""
-        copies = self.below(folder)
-        copy_file(self.log, copies.log)
-        with contextlib.suppress(FileNotFoundError):
-            copy_file(self.snapshot, copies.snapshot)
+        for path in self.paths():
+            copy_file(path, copy_of(path, folder))
         sync_folder(folder)
-        return copies
+        return Pair(None if self.snapshot is None else copy_of(self.snapshot, folder), copy_of(self.log, folder))
 
     def check(self, program: str) -> Checked:
+        words = [*self.paths()[1:], "--log", self.log]
         try:
-            ended = subprocess.run([program, "check", self.snapshot, "--log", self.log], stdin=subprocess.DEVNULL,
-                                   capture_output=True, text=True, errors="replace")
+            ended = subprocess.run([program, "check", *words], stdin=subprocess.DEVNULL, capture_output=True, text=True,
+                                   errors="replace")
         except OSError:
             raise Ended(4, f"{program}, which checks the copy, can't be run: give --program FILE") from None
         said = ended.stdout if ended.returncode == 0 else ended.stderr
         return Checked(ended.returncode, next(iter(said.splitlines()), "hhm was ended"))
+
+
+def copy_of(path: str, folder: str) -> str:
+    return os.path.join(folder, os.path.basename(path))
 
 
 def copy_file(source: str, target: str) -> None:
@@ -74,7 +81,13 @@ def copy_file(source: str, target: str) -> None:
         with contextlib.suppress(PermissionError):
             os.fchown(copy.fileno(), had.st_uid, had.st_gid)
         os.fchmod(copy.fileno(), stat.S_IMODE(had.st_mode))
-        shutil.copyfileobj(file, copy, 1 << 20)
+        front = max(0, had.st_size - TAIL)
+        file.seek(front)
+        tail = file.read(had.st_size - front)
+        file.seek(0)
+        for begin in range(0, front, PIECE):
+            copy.write(file.read(min(PIECE, front - begin)))
+        copy.write(tail)
         copy.flush()
         os.fsync(copy.fileno())
 
@@ -119,8 +132,7 @@ def checked_copy(pair: Pair, folder: str, program: str) -> str:
         found = pair.copy(folder).check(program)
         if found.status == 0:
             return found.line
-    files = pair.log if not os.path.exists(pair.snapshot) else f"{pair.snapshot}, {pair.log}"
-    told = f"{files}: {found.line}, in each of {TRIES} copies: no backup was made"
+    told = f"{', '.join(reversed(pair.paths()))}: {found.line}, in each of {TRIES} copies: no backup was made"
     raise Ended(found.status if found.status > 0 else 4, told)
 
 
@@ -133,9 +145,9 @@ def remove_earlier(folder: str, keep: int, newest: str) -> None:
 
 def backup(given: argparse.Namespace) -> str:
     """Makes a backup, and returns the line that is to be printed. An Ended, or an OSError, where it can't."""
-    pair = Pair(given.snap, given.log)
-    if os.path.basename(pair.snapshot) == os.path.basename(pair.log):
-        raise Ended(2, f"{pair.snapshot}, {pair.log}: snapshot and log have one name, and would be copied to one place")
+    pair = Pair(None if given.snap == "-" else given.snap, given.log)
+    if os.path.basename(given.snap) == os.path.basename(given.log):
+        raise Ended(2, f"{given.snap}, {given.log}: snapshot and log have one name, and would be copied to one place")
     program = given.program or program_in_use()
     if program is None:
         raise Ended(4, "there is no program hhm on the path, which checks the copy: give --program FILE")
@@ -168,7 +180,7 @@ def at_least_one(word: str) -> int:
 def add_words(words: argparse.ArgumentParser) -> None:
     """Adds the words of `backup` to those of the command line."""
     words.add_argument("folder", metavar="DIR", help="where backups are kept, a folder that is there, on another disk")
-    words.add_argument("snap", metavar="SNAP", help="the server's snapshot, which isn't there before the first save")
+    words.add_argument("snap", metavar="SNAP", help="the server's snapshot; - where it has none")
     words.add_argument("log", metavar="LOG", help="the server's log")
     words.add_argument("--keep", type=at_least_one, default=2, metavar="N", help="how many backups stay in DIR (2)")
     words.add_argument("--program", metavar="FILE", help="the hhm that checks the copy (hhm)")

@@ -2,6 +2,7 @@
 beside it: `load` (hhm_load.py), `plot` (hhm_plot.py), all questions (hhm_ask.py), `export` (hhm_export.py), `watch`
 (hhm_watch.py), `metrics` (hhm_metrics.py) and `backup` (hhm_backup.py)."""
 import argparse
+import contextlib
 import importlib
 import importlib.util
 import os
@@ -42,6 +43,8 @@ ENVIRONMENT = (
     f"{SERVER}=unix:/run/hhm/hhm.sock."
 )
 NUMBER = re.compile("0*[1-9][0-9]*", re.ASCII)
+# The refusals of which a server may know a reason, which it tells in its stats.
+REASONED = ("OverTotal", "BookFull", "LogFull", "LogFailed", "SaveFailed")
 KEPT_RUNNING = ": nothing was stopped; `stop --discard` stops the server without what it can't save"
 
 
@@ -268,6 +271,19 @@ def show(piece: bytes) -> None:
         os.kill(os.getpid(), signal.SIGPIPE)
 
 
+def reason_of(given: argparse.Namespace, refused: Refused) -> str:
+    """Why the server refused, as its stats have it; nothing where they don't."""
+    if refused.name not in REASONED:
+        return ""
+    words = []
+    with contextlib.suppress(OSError, Refused):
+        with Client(tcp=given.tcp, unix=given.unix, timeout=SILENCE, attempts=1) as hhm:
+            stats = hhm.stats()
+        figures = module_of("hhm_figures")
+        words = [figures.REASONS.get(why, why) for name, why in figures.failures_of(stats) if name == refused.name]
+    return f" ({words[-1]})" if words else ""
+
+
 def main() -> int:
     """The command line. 0; 1 where the server refused; 2 for bad words; 3 for lines that are no events and files that are
     no sum; 4 where it can't be reached or a file read."""
@@ -280,7 +296,7 @@ def main() -> int:
         return ended.status
     except Refused as refused:
         advice = KEPT_RUNNING if given.word == "stop" else ADVICE.get(refused.name, "")
-        print(f"refused: {refused}{advice}", file=sys.stderr)
+        print(f"refused: {refused}{reason_of(given, refused)}{advice}", file=sys.stderr)
         return 1
     except (OSError, ValueError) as error:
         is_named = isinstance(error, OSError) and error.filename is not None and error.strerror

@@ -13,9 +13,9 @@ import struct
 import sys
 import time
 from collections import Counter
-from typing import Any, Callable, Dict, List, NamedTuple, Optional, Tuple, TypeVar, Union
+from typing import Any, Callable, Dict, List, NamedTuple, Optional, Sequence, Tuple, TypeVar, Union
 
-from hhm_client import MAX_PAGE, ROWS, TOP, BadReply, Client, Refused, Status, TopRow, request
+from hhm_client import CODES, MAX_PAGE, ROWS, TOP, BadReply, Client, Refused, Status, TopRow, request
 
 Value = Union[int, float, str]
 Answer = TypeVar("Answer")
@@ -26,8 +26,19 @@ LABEL = re.compile(r'([A-Za-z0-9_]+)="((?:[^"\\]|\\.)*)"')
 TIMEOUT, PAUSE, SHARE = 5.0, 2.0, 0.05
 # The same for the degrees of all rows, which are many.
 LONG_PAUSE, LONG_SHARE = 5.0, 0.02
-# The seconds that are kept.
+# The seconds that are kept; the history of a day: the seconds between two moments, how many are kept, and which stats.
 KEPT = 600
+MINUTE, MINUTES = 60.0, 1440
+OF_MINUTES = ("resident_bytes", "log_bytes_left")
+HOUR, DAY = 3600.0, 86400.0
+# What the words of servers for the reasons of refusals say. One that isn't here is shown as it is.
+REASONS = {
+    "no-space": "the disk is full", "quota": "the quota of the disk is used up", "file-size": "a limit of file sizes",
+    "permission": "the server may not write there", "read-only": "the disk is read-only", "device": "the disk failed",
+    "no-folder": "the folder isn't there", "moved": "the log was moved, replaced or cut",
+    "other-book": "the log under that path is another book's", "limit": "--limit is reached",
+    "max-batches": "--max-batches is reached",
+}
 
 
 class Moment(NamedTuple):
@@ -50,6 +61,11 @@ class Moment(NamedTuple):
     def total(self) -> int:
         return self.status.total
 
+    def log_used(self) -> Optional[Union[int, float]]:
+        """A number that rises by each byte of the log, and falls where that is begun anew."""
+        left = self.number("log_bytes_left")
+        return None if left is None else -left
+
     def family(self, *names: str) -> List[Tuple[Dict[str, str], Union[int, float]]]:
         """The labels and numbers of all that have the first of these names which the server tells with labels."""
         for wanted in names:
@@ -66,8 +82,9 @@ class Moment(NamedTuple):
     def layers(self) -> List["Layer"]:
         """The layers of each shard, in order."""
         runs = {tuple(sorted(labels.items())): value for labels, value in self.family("shard_layer_runs")}
-        found = [Layer(int(labels.get("shard", 0)), int(labels.get("layer", 0)), int(value),
-                       runs.get(tuple(sorted(labels.items())))) for labels, value in self.family("shard_layer_entries")]
+        found = [Layer(int(labels["shard"]), int(labels["layer"]), int(value), runs.get(tuple(sorted(labels.items()))))
+                 for labels, value in self.family("shard_layer_entries")
+                 if all(labels.get(it, "").isdigit() for it in ("shard", "layer"))]
         return sorted(found, key=lambda it: (it.shard, it.layer))
 
 
@@ -88,6 +105,26 @@ class Bin(NamedTuple):
     rows: int
 
 
+class Bound(NamedTuple):
+    """A number of stats that says what is left, what rises as that falls, and whether it is begun anew by a save."""
+
+    name: str
+    used: Callable[[Moment], Optional[float]]
+    is_begun_anew: bool = False
+
+
+class Left(NamedTuple):
+    """What is left by a name of stats, and for how many days; None where nothing was used, or that isn't known."""
+
+    name: str
+    number: Union[int, float]
+    days: Optional[float]
+
+
+BOUNDS = (Bound("batches_left", Moment.batches), Bound("total_left", Moment.total),
+          Bound("log_bytes_left", Moment.log_used, True))
+
+
 class Degrees(NamedTuple):
     """How many entries rows have, of the first `rows` rows by entries; all of them where they are whole."""
 
@@ -104,6 +141,17 @@ def name_of(name: str) -> str:
 
 def labels_of(name: str) -> Dict[str, str]:
     return dict(LABEL.findall(name.partition("{")[2]))
+
+
+def code_of(word: str) -> str:
+    """The name of the refusal that has a code; the code where it is no known one."""
+    return CODES.get(int(word), word) if word.isascii() and word.isdigit() else word
+
+
+def failures_of(stats: Dict[str, Value]) -> List[Tuple[str, str]]:
+    """The refusals of which stats tell a reason, as `last_failure{code="42",why="no-space"} 1`, each with its word."""
+    found = [labels_of(name) for name, value in stats.items() if name_of(name) == "last_failure" and value]
+    return [(code_of(it.get("code", "?")), it.get("why", "?")) for it in found]
 
 
 def degrees_of(body: bytes) -> Degrees:
@@ -168,6 +216,8 @@ class Watched:
         self.hhm = hhm
         # (a list that is replaced, and never changed: another thread may read it)
         self.moments: List[Moment] = []
+        # A moment of each minute of a day. (replaced, as the list above)
+        self.minutes: List[Moment] = []
         self.unknown: Dict[str, bool] = {}
         self._top = Seldom(lambda: self.hhm.top(most), PAUSE, SHARE)
         self._degrees = Seldom(self._ask_degrees, LONG_PAUSE, LONG_SHARE)
@@ -186,7 +236,19 @@ class Watched:
         moment = Moment(time.time(), status, stats, status_seconds, cell_seconds)
         before = self.moments[1 - KEPT :]
         self.moments = [*before[:-1], *(it.without_labels() for it in before[-1:]), moment]
+        self.keep(moment)
         return moment
+
+    def keep(self, moment: Moment) -> None:
+        """Keeps a moment of each minute, with what is asked of those that are long over."""
+        if not self.minutes or moment.at - self.minutes[-1].at >= MINUTE:
+            stats = {name: moment.stats[name] for name in OF_MINUTES if name in moment.stats}
+            self.minutes = [*self.minutes[1 - MINUTES:], moment._replace(stats=stats)]
+
+    def lefts(self) -> List[Left]:
+        """What is left of each bound that the server tells, and for how many days at the rate of the last hour."""
+        moments = self.moments
+        return lefts_of([*(it for it in self.minutes if it.at < moments[0].at), *moments]) if moments else []
 
     def _stored(self) -> Dict[str, Value]:
         """How many batches are durable."""
@@ -238,3 +300,24 @@ def rate_of(moments: List[Moment], read: Callable[[Moment], Optional[float]], se
     if values[0] is None or values[1] is None or last.at <= first.at:
         return None
     return max(0.0, values[1] - values[0]) / (last.at - first.at)
+
+
+def lefts_of(moments: Sequence[Moment]) -> List[Left]:
+    """What the last of these moments tells to be left, and for how many days at the rate of the hour before it."""
+    last = moments[-1]
+    within = next(place for place, it in enumerate(moments) if last.at - it.at <= HOUR)
+    seen = moments[min(within, max(0, len(moments) - 2)):]
+    told = ((it, last.number(it.name)) for it in BOUNDS)
+    return [Left(it.name, number, days_of(it, number, seen)) for it, number in told if number is not None]
+
+
+def days_of(bound: Bound, number: Union[int, float], moments: Sequence[Moment]) -> Optional[float]:
+    """For how many days a number is enough, as it was used in these moments. What is used falls where another book was
+    begun, of which alone the rate is then, or where a save began the log anew: a log that saves begin anew doesn't
+    fill."""
+    points = [(it.at, used) for it in moments if (used := bound.used(it)) is not None]
+    falls = [place for place in range(1, len(points)) if points[place][1] < points[place - 1][1]]
+    if not points or (falls and bound.is_begun_anew):
+        return None
+    (begin, first), (end, last) = points[falls[-1] if falls else 0], points[-1]
+    return number * (end - begin) / (last - first) / DAY if last > first and end > begin else None

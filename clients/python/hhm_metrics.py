@@ -21,7 +21,7 @@ from typing import Any, Dict, Iterable, List, Optional, Tuple
 from urllib.parse import parse_qs, urlsplit
 
 from hhm_client import CODES, Refused, TopRow
-from hhm_figures import KEPT, LABELLED, Degrees, Moment, Watched, asking, labels_of
+from hhm_figures import BOUNDS, KEPT, LABELLED, MINUTE, Degrees, Moment, Watched, asking, labels_of
 from hhm_page import PAGE
 from hhm_values import Value
 from hhm_words import Words, add_options
@@ -35,8 +35,6 @@ from hhm_watch import (
 GAP, VIEWED = 3.5, 30.0
 # By how many seconds the start of a server may vary, as it is worked out of its age.
 JITTER = 2.0
-# The history of a day: the seconds between two moments, and how many are kept.
-MINUTE, MINUTES = 60.0, 1440
 # Numbers from here on are no longer whole in a browser.
 EXACT = 1 << 53
 # What the page may load: nothing but its own script, styles and numbers.
@@ -52,7 +50,12 @@ HELP = {
     "rows": "Rows of the matrix.", "cols": "Columns of the matrix.", "workers": "Connections that are served at once.",
     "cuts": "Cuts between the layers of a shard.", "layer_cut_entries": "Entries above which a layer goes on to the next.",
     "shards": "Shards of the matrix.", "limit": "The highest total that may be accepted.",
-    "max_batches": "The most batches that may be accepted.", "accepted_total": "Batches accepted since the start.",
+    "max_batches": "The most batches that may be accepted.", "batches_left": "Batches that may still be accepted.",
+    "total_left": "By how much the total may still rise.",
+    "log_bytes_left": "By how many bytes the log may still grow.",
+    **{f"{it.name}_days": f"For how many days {it.name} is enough at the rate of the last hour." for it in BOUNDS},
+    "last_failure": "Why requests were refused last, by their code.",
+    "accepted_total": "Batches accepted since the start.",
     "frames_total": "Requests that came, by their kind.", "received_bytes_total": "Bytes that were read.",
     "sent_bytes_total": "Bytes that were written.", "log_room_pages": "Pages that are ready for batches.",
     "folded": "Accepted batches that are folded.", "cells_total": "Cells of accepted batches.",
@@ -95,20 +98,12 @@ class Looker:
         # What refusals, saves and failed saves were, and when each was last seen to rise.
         self.counts: Dict[str, float] = {}
         self.rises: Dict[str, float] = {}
-        # A moment of each minute of a day. (a list that is replaced, and never changed: another thread may read it)
-        self.day: List[Moment] = []
 
     def run(self) -> None:
         while True:
             begin = time.monotonic()
             self.look()
             time.sleep(max(0.05, self.every - (time.monotonic() - begin)))
-
-    def keep(self, moment: Moment) -> None:
-        """Keeps a moment of each minute, with what the page draws."""
-        if not self.day or moment.at - self.day[-1].at >= MINUTE:
-            stats = {name: moment.stats[name] for name in MEMORY if name in moment.stats}
-            self.day = [*self.day[1 - MINUTES:], moment._replace(stats=stats)]
 
     def note_rises(self, moment: Moment) -> None:
         numbers = {"refused": refused_of(moment), "saves": moment.number(*SAVES), "failed": moment.number(*FAILED)}
@@ -131,7 +126,6 @@ class Looker:
             age = moment.number(*UPTIME)
             if age is not None and (self.start is None or abs(moment.at - age - self.start) > JITTER):
                 self.start = moment.at - age
-            self.keep(moment)
             self.note_rises(moment)
             if time.monotonic() - self.viewed < VIEWED:
                 self.top = self.seen.top()
@@ -195,6 +189,7 @@ def page_stats(looker: Looker, since: float, words: Words) -> Dict[str, Any]:
         "refused": [it.rsplit(" ", 1) for it in refusals_of(last)],
         "is_refusing": looker.is_refusing(), "is_unsaved": looker.is_unsaved(),
         "rates": {name: seen.rate(read, BACK) for name, read in rates.items()},
+        "left": [[it.name, whole(it.number), it.days] for it in seen.lefts()],
         "layers": [list(it) for it in last.layers()],
         "top": None if looker.top is None else [[whole(number) for number in it] for it in looker.top],
         "names": [words.name(it.row) for it in looker.top or []],
@@ -236,6 +231,7 @@ def families_of(looker: Looker) -> Dict[str, List[str]]:
         last = moments[-1]
         told: Dict[str, Any] = {"batches": last.batches(), "total": last.total(), **last.stats}
         told.update({"status_seconds": round(last.status_seconds, 6), "cell_seconds": round(last.cell_seconds, 6)})
+        told.update({f"{it.name}_days": round(it.days, 4) for it in looker.seen.lefts() if it.days is not None})
         for name, value in told.items():
             found = LABELLED.fullmatch(name)
             if name == "version":
@@ -255,7 +251,7 @@ def family_of(name: str) -> str:
 def named(name: str) -> str:
     """A name of stats; a refusal's code gets its name beside it."""
     labels = labels_of(name)
-    if not name.startswith("refused_total{") or not labels.get("code", "").isdigit():
+    if not name.startswith(("refused_total{", "last_failure{")) or not labels.get("code", "").isdigit():
         return name
     return f'{name[:-1]},name="{CODES.get(int(labels["code"]), "unknown")}"}}'
 
@@ -286,7 +282,7 @@ class Handler(BaseHTTPRequestHandler):
             told["places"] = [looker.seen.place for looker in self.lookers]
             self.answer(200, "application/json", json.dumps(told, separators=(",", ":")))
         elif asked.path == "/day.json":
-            told = series_of(self.looker(asked.query).day, 0.0, GAP * MINUTE)
+            told = series_of(self.looker(asked.query).seen.minutes, 0.0, GAP * MINUTE)
             self.answer(200, "application/json", json.dumps(told, separators=(",", ":")))
         elif asked.path == "/metrics":
             self.answer(200, "text/plain; version=0.0.4; charset=utf-8", metrics_of(self.lookers))

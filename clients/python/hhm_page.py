@@ -137,6 +137,10 @@ function lasting(seconds) {
   if (whole < 3600) return Math.floor(whole / 60) + " min " + whole % 60 + " s";
   return Math.floor(whole / 3600) + " h " + Math.floor(whole % 3600 / 60) + " min";
 }
+function daysLeft(days) {
+  const digits = days < 10 ? 2 : days < 100 ? 1 : 0;
+  return days.toLocaleString("en", {maximumFractionDigits: digits}) + " days at the last hour's rate";
+}
 const clock = (time) => new Date(1000 * time).toLocaleTimeString("en-GB");
 function row(number) {
   const value = Number(number);
@@ -371,6 +375,11 @@ function drawTiles(now) {
   const [full, high] = [share(now.batches, "max_batches"), share(now.total, "limit")];
   tile("Batches", big(now.batches), more(now.rates.batches, full), full > 0.95);
   tile("Total", brief(now.total), more(now.rates.total, high), high > 0.95);
+  const lefts = {batches_left: "Batches left", total_left: "Total left", log_bytes_left: "Log left"};
+  for (const [name, left, days] of now.left) {
+    const value = name === "log_bytes_left" ? bytes(Number(left)) : brief(left);
+    tile(lefts[name], value, days === null ? "" : daysLeft(days), days !== null && days < 1);
+  }
   if (now.rates.cells !== null) tile("Cells put", number("cells"), big(now.rates.cells) + " a second");
   tile("Repeats", number("repeats"));
   tile("Refused", number("refused"), now.refused.map((it) => it[0] + " " + big(it[1])).join(", "),

@@ -20,8 +20,8 @@ import time
 import tty
 from typing import Iterable, Iterator, List, Optional
 
-from hhm_client import CODES, Refused, TopRow
-from hhm_figures import Layer, Moment, Watched, asking
+from hhm_client import Refused, TopRow
+from hhm_figures import Layer, Left, Moment, Watched, asking, code_of, failures_of
 from hhm_words import Words, add_options
 
 # The names of stats that are shown, each with what it may be called.
@@ -45,7 +45,9 @@ def big(number: Optional[float]) -> str:
     """A number for reading: whole, with commas; a small one with a digit behind the point."""
     if number is None:
         return "?"
-    return f"{number:,.1f}" if isinstance(number, float) and number < 10 and number != int(number) else f"{number:,.0f}"
+    if isinstance(number, int):
+        return f"{number:,}"
+    return f"{number:,.1f}" if number < 10 and number != int(number) else f"{number:,.0f}"
 
 
 def bytes_told(number: float) -> str:
@@ -71,9 +73,18 @@ def time_told(seconds: float) -> str:
 
 def refusals_of(moment: Moment) -> List[str]:
     """Each code of a refusal that was answered, by its name, with how often."""
-    found = [(CODES.get(int(labels.get("code", "0") or 0), labels.get("code", "?")), value)
-             for labels, value in moment.family(*REFUSED) if value]
-    return [f"{name} {big(value)}" for name, value in found]
+    return [f"{code_of(labels.get('code', '?'))} {big(value)}" for labels, value in moment.family(*REFUSED) if value]
+
+
+def days_told(days: float) -> str:
+    return f"{days:,.2f}" if days < 10 else f"{days:,.1f}" if days < 100 else f"{days:,.0f}"
+
+
+def left_told(it: Left) -> List[str]:
+    """What is left, and for how many days, as pairs."""
+    is_bytes = it.name == "log_bytes_left"
+    told = ["log left" if is_bytes else it.name.replace("_", " "), (bytes_told if is_bytes else big)(it.number)]
+    return told + ([] if it.days is None else ["days", days_told(it.days)])
 
 
 def refused_of(moment: Moment) -> Optional[float]:
@@ -105,7 +116,9 @@ def facts_of(seen: Watched, moment: Moment) -> Iterator[List[str]]:
     traffic = [(name, seen.rate(lambda it, names=names: it.number(*names), BACK))
                for name, names in (("received", RECEIVED), ("sent", SENT))]
     yield [word for name, rate in traffic if rate is not None for word in (f"{name}/s", bytes_told(rate))]
+    yield [word for left in seen.lefts() for word in left_told(left)]
     yield pairs(("repeats", number(*REPEATS)), ("refused", refused_of(moment))) + refusals_of(moment)
+    yield [word for name, why in failures_of(moment.stats) for word in (f"last {name}", why)]
     yield pairs(("sessions", number(*OPEN)), ("waiting", number(*WAITING)), ("served", number(*SERVED)),
                 ("workers", number(*WORKERS)))
     memory, processor = number(*MEMORY), seen.rate(lambda it: it.number(*PROCESSOR), BACK)
