@@ -300,7 +300,7 @@ def drawn_ones_are_rolled():
             check(f"drawn {turn}: {part}: the file", files.held(), wanted)
 
 
-REFUSED_SAVE = re.compile(r"hhm: file: (Create|Write|Sync|Rename)\n")
+REFUSED_SAVE = re.compile(r"hhm: file: (Create|Write|Sync|Rename) \(.*\)\n")
 
 
 class Rolled(Broken):
