@@ -99,6 +99,9 @@ def a_file_is_named():
         shut = written("shut.snap", b"")
         os.chmod(shut, 0)
         check("shut", hhm("check", shut), (f"hhm: file: OpenFailed ({shut}: Permission denied)\n", 4))
+    pipe = in_folder("pipe")
+    os.mkfifo(pipe)
+    check("a pipe", hhm("check", pipe), (f"hhm: file: OpenFailed ({pipe})\n", 4))
     check("several", hhm("top", cut, none), (f"hhm: snapshot: Truncated in {cut}\n", 3))
     check("relative", hhm("check", "none", cwd=server.FOLDER), ("hhm: file: NotFound (none)\n", 4))
 

@@ -509,7 +509,7 @@ def refused_calls(folder):
                                **refusing.how)  # fmt: skip
         met, found = refusing.was_met(), files_in(target)
         shutil.rmtree(target)
-        return ended.stdout, ended.stderr.decode(), ended.returncode, found, met
+        return ended.stdout, bare(ended.stderr.decode()), ended.returncode, found, met
 
     for (kind, error), faults in kinds.items():
         at, wrong, met = 1, [], True

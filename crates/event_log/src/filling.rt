@@ -10,7 +10,8 @@ const NEVER: u64 = u64::MAX;
 
 /// What of a bound a level is. It is rounded up.
 fn share_of(most: u64, percent: u64) -> u64 {
-    (most as u128 * percent as u128).div_ceil(100) as u64
+    let share = (most as u128 * percent as u128).div_ceil(100);
+    u64::try_from(share).unwrap_or(u64::MAX)
 }
 
 /// What fills up, how many of how many it has, and the level that it has passed.

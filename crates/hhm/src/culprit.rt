@@ -74,17 +74,23 @@ fn in_use<'a, R: Files + Alloc>(rt: &R, path: Option<&'a str>) -> Culprit<'a> {
     }
 }
 
-// A file that wasn't opened, with what the system says where it still isn't.
+// What the system says of a file that it doesn't open, if it says so again. A pipe isn't opened: that could wait.
+fn opening_error<R: Files<File = File>>(rt: &R, name: &str) -> Option<i32> {
+    match fs::metadata(rt, name) {
+        Ok(found) if found.is_file() => fs::open(rt, name).err()?.raw_os_error(),
+        Ok(_) => None,
+        Err(error) => error.raw_os_error(),
+    }
+}
+
+// A file that wasn't opened, with what the system says of it.
 fn unopened<'a, R: Files<File = File>>(rt: &R, path: Option<&'a str>) -> Culprit<'a> {
     let Some(name) = path else {
         return Culprit::Nothing;
     };
-    match fs::open(rt, name) {
-        Ok(_) => Culprit::Named(name),
-        Err(error) => match error.raw_os_error() {
-            Some(error) => Culprit::Refused { path: name, error },
-            None => Culprit::Named(name),
-        },
+    match opening_error(rt, name) {
+        Some(error) => Culprit::Refused { path: name, error },
+        None => Culprit::Named(name),
     }
 }
 

@@ -37,12 +37,11 @@ fn process_in(line: &str, file: &str) -> Option<u64> {
 /// The process that holds the lock of a path, that of the file whose name has `.lock` behind it. None where that can't be
 /// known, as on a system without such a list, or where the process is in another container.
 pub fn holder_of<R: Files + Alloc>(rt: &R, path: &str) -> Option<u64> {
-    let alloc = rt.alloc();
-    let name = format!(in alloc; "{path}.lock").ok()?;
+    let name = format!(in rt.alloc(); "{path}.lock").ok()?;
     let found = fs::metadata(rt, name.as_str()).ok()?;
     let (major, minor) = parts_of(found.dev());
     let inode = found.ino();
-    let file = format!(in alloc; "{major:02x}:{minor:02x}:{inode}").ok()?;
+    let file = format!(in rt.alloc(); "{major:02x}:{minor:02x}:{inode}").ok()?;
     let list = fs::read_to_string(rt, LOCKS).ok()?;
     let process = list
         .lines()
