@@ -20,6 +20,7 @@ from concurrent.futures import ThreadPoolExecutor
 
 HERE = os.path.dirname(os.path.abspath(__file__))
 sys.path.insert(0, HERE)
+from faults import bare  # noqa: E402
 from program import BANNER, FAR, FIVE, MOST, NONE, ONE, SIZE, TWO, leave_room, snapshot  # noqa: E402
 from refused import EIO, Refusing, build_library  # noqa: E402
 from snap_bytes import BOOK, OWNED, UNKNOWN  # noqa: E402
@@ -31,7 +32,7 @@ FAILED, PASSED = [], []
 
 
 def check(name, found, wanted):
-    if found == wanted:
+    if found == wanted or bare(found) == wanted:
         PASSED.append(name)
         return
     FAILED.append(name)
@@ -508,7 +509,7 @@ def refused_calls(folder):
                                **refusing.how)  # fmt: skip
         met, found = refusing.was_met(), files_in(target)
         shutil.rmtree(target)
-        return ended.stdout, ended.stderr.decode(), ended.returncode, found, met
+        return ended.stdout, bare(ended.stderr.decode()), ended.returncode, found, met
 
     for (kind, error), faults in kinds.items():
         at, wrong, met = 1, [], True

@@ -509,7 +509,7 @@ def a_grown_copy_takes_a_later_log():
         check(f"copy {given}: then the setup", growing.snap_setup(copy), SMALL._replace(**{**given, **more}))
 
 
-REFUSALS = re.compile(r"hhm: file: (Create|Write|Sync|Rename)\n")
+REFUSALS = re.compile(r"hhm: file: (Create|Write|Sync|Rename) \(.*\)\n")
 GROWN = {"rows": 9, "cuts": (), "shards": 7, "limit": 8, "most": 2}
 
 

@@ -606,7 +606,7 @@ def each_call_of_a_growing_start_may_fail():
             what_is_left_starts(at, files)
 
 
-READ_REFUSALS = re.compile(r"hhm: log: (Read at page 0|Sync|Create)\n")
+READ_REFUSALS = re.compile(r"hhm: log: (Read at page 0|Sync|Create) \(.*\)\n")
 
 
 def logs_that_cannot_be_read_are_told():

@@ -646,7 +646,7 @@ BROKEN = [
 ]
 FAILING = ("new", "old", "an old log", "an old snapshot")
 CHANGES = (WRITES, CUTS, SYNCS, RENAMES, REMOVES, SYNCS_OF_FOLDERS)
-REFUSALS = re.compile(r"hhm: (file|log): (Create|Write|Sync|Rename)\n")
+REFUSALS = re.compile(r"hhm: (file|log): (Create|Write|Sync|Rename) \(.*\)\n")
 
 
 class Broken(Files):

@@ -238,6 +238,62 @@ def refusals_together_are_counted():
             check("together: all", events, wanted)
 
 
+def filling(what, percent, used, most):
+    return f"filling what={what} percent={percent} used={used} most={most}"
+
+
+def filled(name, at):
+    """The events of what fills up, of a server that was stopped and ends well."""
+    return [it for it in ends_well(name, at) if it.startswith("filling")]
+
+
+def a_book_that_fills_is_told():
+    """Each level of batches and of the total once, however many puts are refused or repeated; again by the next start."""
+    room = room_of("filling")
+    full = filling("batches", 95, 10, 10)
+    with told_server(room) as at:
+        link = at.link()
+        for nth, count in enumerate([1] * 7 + [72, 1, 1]):
+            check(f"filling: put {nth}", answer(link, put_frame(8, nth, text(count)))[4:5], b"\x81")
+            check(f"filling: a repeat {nth}", answer(link, put_frame(8, 0, text(1))), accepted(0, 1))
+        check("filling: refused", answer(link, put_frame(9, 1, text(1))), refused(32))
+        stop("filling", at, link)
+        wanted = [filling("batches", 80, 8, 10), filling("total", 80, 80, 100), full]
+        check("filling: all", filled("filling", at), wanted)
+    with told_server(room) as at:
+        stop("filled", at, at.link())
+        check("filled: all", filled("filled", at), [full, filling("total", 80, 81, 100)])
+    room = room_of("filling at once")
+    with told_server(room) as at:
+        link = at.link()
+        check("at once: put", answer(link, put_frame(8, 1, text(100))), accepted(0, 100))
+        stop("at once", at, link)
+        check("at once: all", filled("at once", at), [filling("total", 95, 100, 100)])
+
+
+def a_log_that_fills_is_told():
+    """Each level of the system's limit of the size of files, here 20 pages, and once more after a save."""
+    room = room_of("a long log")
+    most = 20 * 4096
+    limits = {"preexec_fn": lambda: resource.setrlimit(resource.RLIMIT_FSIZE, (most, most))}
+    with told_server(room, setup=["--rows", "3", "--cols", "3"], **limits) as at:
+        link = at.link()
+        for nth in range(19):
+            check(f"a long log: put {nth}", answer(link, put_frame(8, nth, text(1))), accepted(nth, nth + 1))
+        check("a long log: full", answer(link, put_frame(8, 19, text(1))), LOG_FULL)
+        with at.client(1) as hhm:
+            found = hhm.stats()
+            check("a long log: none is left", found["log_bytes_left"], 0)
+            check("a long log: why", [it for it in found if it.startswith("last_failure")],
+                  ['last_failure{code="34",why="file-size"}'])
+        check("a long log: save", answer(link, SAVE)[:5], saved(1)[:5])
+        for nth in range(19, 35):
+            check(f"a long log: put {nth}", answer(link, put_frame(8, nth, text(1))), accepted(nth, nth + 1))
+        stop("a long log", at, link)
+        levels = [filling("log_bytes", 80, 16 * 4096, most), filling("log_bytes", 95, 19 * 4096, most)]
+        check("a long log: all", filled("a long log", at), [*levels, levels[0]])
+
+
 def codes_in(replies):
     """How many replies were refused with each code, and how many were not, under None."""
     counted, at = {}, 0
@@ -259,6 +315,8 @@ def all_are_tried():
         saves_that_fail_tell_their_file,
         a_last_log_that_fails_is_told,
         refusals_together_are_counted,
+        a_book_that_fills_is_told,
+        a_log_that_fills_is_told,
     )
 
 

@@ -59,8 +59,8 @@ from torture_setups import Heads, Start, draw_given, draw_old_files, entries_in,
 
 SECONDS = 20
 # What a start may report where a call of it was made to fail, and where a number that it was given is too small.
-REFUSALS = re.compile(r"hhm: (log|file): (Create|Write|Sync|Rename|OpenFailed)\n")
-MISFITS = re.compile(r"hhm: (settings: (Snapshot|Log)Differs \(.*\)|log: NotFresh at batch \d+)\n")
+REFUSALS = re.compile(r"hhm: (log|file): (Create|Write|Sync|Rename|OpenFailed) \(.*\)\n")
+MISFITS = re.compile(r"hhm: (settings: (Snapshot|Log)Differs \(.*\)|log: NotFresh at batch \d+ \(.*\))\n")
 LINES = re.compile(
     r"rows (\d+) cols (\d+) shards (\d+) batches (\d+) total (\d+) entries (\d+)\n"
     r"(?:log first (\d+) batches (\d+) pages (\d+) rest \d+\n)?"

@@ -17,6 +17,7 @@ import tempfile
 import threading
 from typing import NamedTuple
 
+from faults import bare
 from snap_bytes import BANNER, BOOK, MOST, NONE, OWNED, SIZE, FirstFault, Origin, Snapshot, field, snapshot, with_byte
 
 HERE = os.path.dirname(os.path.abspath(__file__))
@@ -360,7 +361,7 @@ def differences(case, output, error, status):
         if wanted is SOME:
             if not found:
                 yield f"no {what}"
-        elif found != wanted.encode():
+        elif found != wanted.encode() and bare(found) != wanted.encode():
             yield f"{what} {found[:200]!r} in place of {wanted[:200]!r}"
     if status != case.status:
         yield f"status {status} in place of {case.status}"

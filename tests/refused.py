@@ -26,6 +26,7 @@ from typing import Callable, NamedTuple
 HERE = os.path.dirname(os.path.abspath(__file__))
 sys.path.insert(0, HERE)
 import log_bytes  # noqa: E402
+from faults import bare  # noqa: E402
 from program import BANNER, NONE, snapshot  # noqa: E402
 from snap_bytes import OWNED, PAIRED, FirstFault, with_book  # noqa: E402
 from server import SMALL, accepted, put_frame, refused, text  # noqa: E402
@@ -237,7 +238,7 @@ def refused_run(program, run, kind, error, at):
         done = subprocess.run(
             [program, *run.words], input=run.text, capture_output=True, timeout=SECONDS, **refusing.how
         )
-        ended = Ended(done.stdout, done.stderr, done.returncode)
+        ended = Ended(done.stdout, bare(done.stderr), done.returncode)
     except subprocess.TimeoutExpired:
         ended = Ended(b"", b"it didn't end", -1)
     return ended, refusing.was_met()
@@ -352,7 +353,7 @@ def held_in(path):
 def judge_end(process, saved, ends, held):
     """What is wrong with the end of a server, or with its file, which is to be one of these, or None."""
     output, error = process.communicate(timeout=SECONDS)
-    ended = Ended(output, error, process.returncode)
+    ended = Ended(output, bare(error), process.returncode)
     if ended not in ends:
         return ended
     found = held_in(saved)
@@ -462,7 +463,7 @@ def names_run(program, folder, at):
         held = held_in(saved)
         stopping = talk(path, more + STOP)
         output, error = process.communicate(timeout=SECONDS)
-    told = Ended(output, error, process.returncode)
+    told = Ended(output, bare(error), process.returncode)
     wanted = [refused(42), STOPPED] if at == 1 else [REPLIES[-1], Ended(b"", b"hhm: file: Rename\n", 4)]
     found = [answer.removeprefix(b"".join(REPLIES[:-1])), told]
     if (found, held, stopping, refusing.was_met()) == (wanted, SAVED, taken + STOPPING, True):
@@ -475,7 +476,7 @@ def first_name_run(program, folder):
     path, saved = (os.path.join(folder, f"first {name}") for name in ("socket", "snap"))
     words = [program, "serve", "--unix", path, "--snapshot", saved, *SMALL]
     done = subprocess.run(words, capture_output=True, timeout=SECONDS, **Refusing("names", EIO, 1).how)
-    found = Ended(done.stdout, done.stderr, done.returncode), held_in(saved)
+    found = Ended(done.stdout, bare(done.stderr), done.returncode), held_in(saved)
     return None if found == (Ended(b"", b"hhm: file: Rename\n", 4), EMPTY) else found
 
 

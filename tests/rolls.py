@@ -19,6 +19,7 @@ import sys
 
 import server
 from disks import DIE_BEFORE, FAIL, WRITES
+from faults import bare
 from identity import Broken, Room
 from refused import EIO, Refusing, build_library, library_of
 from server import check, content
@@ -300,7 +301,7 @@ def drawn_ones_are_rolled():
             check(f"drawn {turn}: {part}: the file", files.held(), wanted)
 
 
-REFUSED_SAVE = re.compile(r"hhm: file: (Create|Write|Sync|Rename)\n")
+REFUSED_SAVE = re.compile(r"hhm: file: (Create|Write|Sync|Rename) \(.*\)\n")
 
 
 class Rolled(Broken):
@@ -359,7 +360,7 @@ def a_refused_call_leaves_the_old_file():
             refusing = Refusing(kind, error, at)
             output, fault, status = hhm("roll", files.to, "9", *words, **refusing.how)
             met = refusing.was_met()
-            line, found = fault[5:-1], files.held()
+            line, found = bare(fault)[5:-1], files.held()
             if status == 0:
                 check(f"refused {kind} {at}", (output, fault, found), ("rolled 2 batches 3 total 13\n", "", wanted))
             else:

@@ -17,6 +17,7 @@ import sys
 
 import log_bytes
 import server
+from faults import bare
 from identity import F, FT, Files, OTHER, all_is_known, held_in, log_of, snap_of, total_of
 from log_bytes import PAGE, JoinFault, Log, LogFault, Setup, entry_of, joined, log, number_in, page_kind
 from log_check import LARGE, WIDE
@@ -409,9 +410,9 @@ def refused_once(files, kind, error, at, told):
         os.remove(os.path.join(files.folder, name))
     met = refusing.was_met()
     faults = {"growth": r"hhm: memory\n", "fault": r"hhm: (snapshot: Read|log: Read at page \d+|file: (Write|Sync))\n"}
-    is_refused = re.fullmatch(faults[kind], found[1]) and found[0] == "" and names == []
+    is_refused = re.fullmatch(faults[kind], bare(found[1])) and found[0] == "" and names == []
     # The last two calls are the sync of the folder and the write of the line: then the file may be there.
-    may_be = re.fullmatch(r"hhm: (file: Rename|output failed after 0 bytes)\n", found[1]) and kind == "fault"
+    may_be = re.fullmatch(r"hhm: (file: Rename|output failed after 0 bytes)\n", bare(found[1])) and kind == "fault"
     is_right = is_refused or may_be or found == (told, "", 0) and names == ["out"]
     return None if is_right and (met or found[2] == 0) else (found, names), met
 

@@ -25,6 +25,7 @@ import types
 HERE = os.path.dirname(os.path.abspath(__file__))
 sys.path.insert(0, os.path.join(HERE, "..", "clients", "python"))
 import hhm_client  # noqa: E402
+from faults import bare  # noqa: E402
 from hhm_client import BANNER, Client, Refused, Status, cells_of, put_frame  # noqa: E402
 
 PROGRAM = ""
@@ -39,7 +40,12 @@ failed = 0
 
 
 def check(name, got, wanted):
-    """Counts a comparison, and tells of it where it fails."""
+    """Counts a comparison, and tells of it where it fails. What a fault is of is compared where it is wanted."""
+    check_exactly(name, got if got == wanted else bare(got), wanted)
+
+
+def check_exactly(name, got, wanted):
+    """The same, with what a fault is of."""
     global passed, failed
     if got == wanted:
         passed += 1

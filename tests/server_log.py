@@ -22,6 +22,7 @@ import traceback
 import log_bytes
 import program
 import server
+from faults import bare
 from log_bytes import Log, block, entry_of, fields, head, log, pages_of, with_book
 from server import SMALL, WAIT, Server, accepted, check, content, put_frame, refused, text
 from server_faults import OTHER, SAVE, STATUS, STOP, STOPPING, asked, counts, in_folder, in_snap, write
@@ -309,7 +310,7 @@ def damage_is_told_and_stays():
     for place in [PAGE, PAGE + 5, PAGE + 12, PAGE + 31, PAGE + 79, PAGE + 80, 2 * PAGE - 1]:
         write(path, with_byte(whole, place, whole[place] ^ 1))
         output, error, status = started("--log", path)
-        told.append((output, error, status) in [("", f"hhm: log: Damaged at page {page}\n", 3) for page in (1, 2)])
+        told.append((output, bare(error), status) in [("", f"hhm: log: Damaged at page {page}\n", 3) for page in (1, 2)])
     check("flipped bits", told, [True] * 7)
     write(path, with_byte(whole, 2 * PAGE + 79, 0))
     lines = log_bytes.check_line([FIVE]) + "\nlog first 0 batches 1 pages 2 rest 1\n"

@@ -9,6 +9,7 @@ but Python's own library.
 """
 import os
 import re
+import resource
 import struct
 import subprocess
 import sys
@@ -91,6 +92,11 @@ def with_labels(name, key, values):
     return [f'{name}{{{key}="{value}"}}' for value in values]
 
 
+def failures_in(found):
+    """The lines that say why requests were refused last."""
+    return {name: value for name, value in found.items() if name.startswith("last_failure")}
+
+
 def layers(shards, count):
     names = ("shard_layer_entries", "shard_layer_runs")
     return [f'{name}{{shard="{shard}",layer="{layer}"}}' for shard in range(shards) for layer in range(1, count + 1)
@@ -101,14 +107,14 @@ def names_of(shards, count, is_logged, is_saved=False):
     """The names of all lines of a server, in their order."""
     return [
         "rows", "cols", "cuts", *with_labels("layer_cut_entries", "layer", range(1, count)), "shards", "limit",
-        "max_batches", "batches", "folded", "total", "version", "book", "uptime_seconds", "resident_bytes",
+        "max_batches", "batches", "folded", "total", "version", "book", "batches_left", "total_left", "uptime_seconds", "resident_bytes",
         "processor_seconds_total", "accepted_total", "repeats_total", "cells_total",
         *with_labels("refused_total", "code", CODES), *with_labels("frames_total", "kind", KINDS), "workers",
         "sessions_total", "sessions_open", "sessions_waiting", "received_bytes_total", "sent_bytes_total",
         *with_labels("put_seconds_bucket", "le", BOUNDS), "put_seconds_sum", "put_seconds_count", "saves_total",
         "failed_saves_total", *(["saved_batches", "save_age_seconds"] if is_saved else []),
-        *(["log_durable_batches", "log_failed", "log_room_pages", "log_group_batches", "log_pages", "log_syncs_total"]
-          if is_logged else []),
+        *(["log_durable_batches", "log_failed", "log_room_pages", "log_group_batches", "log_pages", "log_syncs_total",
+           "log_bytes_left"] if is_logged else []),
         *layers(shards, count),
     ]
 
@@ -125,11 +131,12 @@ def an_empty_server_tells_its_setup():
             wanted.update({
                 "rows": "3", "cols": "3", "cuts": "2", 'layer_cut_entries{layer="1"}': "2",
                 'layer_cut_entries{layer="2"}': "4", "shards": "2", "limit": "100", "max_batches": "10",
-                "version": "0.1.0", "book": "1", "workers": "3", "sessions_total": "1", "sessions_open": "1",
+                "version": "0.1.0", "book": "1", "batches_left": "10", "total_left": "100", "workers": "3", "sessions_total": "1", "sessions_open": "1",
                 "received_bytes_total": "5", 'frames_total{kind="stats"}': "1",
             })
             if more:
                 wanted["log_pages"] = "1"
+                wanted["log_bytes_left"] = str(2**40 - 4096)
             for name, (_, value) in zip(names_in(lines), lines):
                 if name in TIMED:
                     check(f"empty {more}: {name} {value}", bool(re.fullmatch(TIMED[name], value)), True)
@@ -144,11 +151,13 @@ def each_number_rises_as_it_should():
         counted = {"received_bytes_total": 0, "sent_bytes_total": 0}
         steps = [
             ("a put", put(7, 1, b"3 3 2\n1 1 5\n2 3 7\n"), 0x81,
-             {"accepted_total": 1, "cells_total": 2, "batches": 1, "total": 12, 'frames_total{kind="put"}': 1}),
+             {"accepted_total": 1, "cells_total": 2, "batches": 1, "total": 12, "batches_left": -1, "total_left": -12,
+              'frames_total{kind="put"}': 1}),
             ("the same again", put(7, 1, b"3 3 2\n1 1 5\n2 3 7\n"), 0x81,
              {"repeats_total": 1, 'frames_total{kind="put"}': 1}),
             ("cells", put_cells(7, 2, (2, 2, 0), (0, 0, 1), (2, 2, 3)), 0x81,
-             {"accepted_total": 1, "cells_total": 2, "batches": 1, "total": 4, 'frames_total{kind="put_cells"}': 1}),
+             {"accepted_total": 1, "cells_total": 2, "batches": 1, "total": 4, "batches_left": -1, "total_left": -4,
+              'frames_total{kind="put_cells"}': 1}),
             ("a reused number", put_cells(7, 2, (1, 1, 9)), 0xFF,
              {'refused_total{code="30"}': 1, 'frames_total{kind="put_cells"}': 1}),
             ("above the total", put_cells(7, 3, (1, 1, 25)), 0xFF,
@@ -263,10 +272,12 @@ def saves_are_told():
             names = ("saves_total", "failed_saves_total", "saved_batches", 'refused_total{code="42"}')
             check("a failed save", numbers_until(link, names, ["1", "1", "1", "1"]), ["1", "1", "1", "1"])
             found = told(link)
+            check("why it failed", failures_in(found), {'last_failure{code="42",why="no-folder"}': "1"})
             time.sleep(1.1)
             hhm.save()
             check("another save", numbers_until(link, names, ["2", "1", "2", "1"]), ["2", "1", "2", "1"])
             later = told(link)
+            check("no failure since", failures_in(later), {})
             check("a younger one", float(later["save_age_seconds"]) < float(found["save_age_seconds"]) + 1, True)
             check("the time goes on", float(later["uptime_seconds"]) > float(found["uptime_seconds"]) + 1, True)
         at.stop("saves", 2, 11)
@@ -360,6 +371,27 @@ def a_log_is_told():
               ["13", "0", "2", "13", "0"])
 
 
+def what_is_left_is_told():
+    """What a book still takes, and why it takes no more; and what its log may grow where the system limits that."""
+    setup = ["--limit", "40", "--max-batches", "2", "--log", os.path.join(server.FOLDER, "left.log")]
+    names = ("batches_left", "total_left")
+    most = 64 << 20
+    limited = {"preexec_fn": lambda: resource.setrlimit(resource.RLIMIT_FSIZE, (most, most))}
+    with Server([*SMALL, *setup], tcp=False, **limited) as at, at.link() as link:
+        left, why = [], []
+        for batch, count in [(1, 12), (2, 30), (2, 28), (3, 0)]:
+            link.sendall(put_cells(7, batch, (0, 0, count)))
+            reply(link)
+            found = told(link)
+            left.append([found[name] for name in names])
+            why.append(failures_in(found))
+        limit, full = ('last_failure{code="31",why="limit"}', 'last_failure{code="32",why="max-batches"}')
+        check("what is left", left, [["1", "28"], ["1", "28"], ["0", "0"], ["0", "0"]])
+        check("why no more", why, [{}, {limit: "1"}, {limit: "1"}, {limit: "1", full: "1"}])
+        pages = int(found["log_pages"])
+        check("the log", (pages > 1, int(found["log_bytes_left"])), (True, most - 4096 * pages))
+
+
 def pages_of(path):
     with open(path, "rb") as file:
         data = file.read()
@@ -443,6 +475,7 @@ def all_is_told():
     saves_are_told()
     times_of_puts_are_told()
     a_log_is_told()
+    what_is_left_is_told()
     the_process_is_told()
     the_largest_reply()
     it_is_asked_beside_puts()

@@ -24,7 +24,7 @@ OF_HHM = (
     "fold_files.py", "growing.py", "server_log_faults.py", "log_events.py", "call_order.py", "log_torture.py",
     "server_paths.py", "server_ends.py", "progress.py", "server_clients.py", "install.py", "distribution.py",
     "examples.py", "windows.py", "rolls.py", "backups.py",
-    "refused.py",
+    "refused.py", "culprits.py",
 )  # fmt: skip
 OF_GROWTHS = ("refused_libraries.py",)
 OF_BENCH = ("run.py", "serve.py")

@@ -1,5 +1,6 @@
 //! What happens to a server.
 
+use crate::filling::Filled;
 use std::time::Duration;
 
 /// Why a save failed: the file that it was about to write, the step, and the system's number of the error, if it had
@@ -57,6 +58,8 @@ pub enum Event {
     LogFull {
         by: Option<FailedCall>,
     },
+    /// Something has passed a level of its bound.
+    Filling(Filled),
     /// No further connection is accepted.
     Stopping,
     /// The server has ended well, with so much accepted.

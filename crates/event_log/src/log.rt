@@ -1,6 +1,7 @@
 //! What has happened and isn't told yet.
 
 use crate::event::{Event, FailedCall, Unsaved};
+use crate::filling::{Filled, Filling};
 use crate::stamp::since;
 use std::alloc::Global;
 use std::mem;
@@ -74,6 +75,14 @@ pub struct Paths {
     pub log: Option<String>,
 }
 
+/// How many batches a book takes, how high its total may get, and how many bytes the log may have, if there is one.
+#[derive(Clone, Copy, Debug, PartialEq, Eq)]
+pub struct Bounds {
+    pub batches: u64,
+    pub total: u64,
+    pub log_bytes: Option<u64>,
+}
+
 /// What has happened to a server and isn't told yet. Several threads note it.
 #[derive(Drop)]
 pub struct EventLog {
@@ -82,6 +91,9 @@ pub struct EventLog {
     news: Mutex<News>,
     refusals: Mutex<[u64; CODES]>,
     told: Mutex<Told>,
+    batches: Filling,
+    total: Filling,
+    log_bytes: Filling,
     is_news: Condvar,
 }
 
@@ -94,6 +106,9 @@ impl EventLog {
             news: Mutex::new(News::new(alloc)),
             refusals: Mutex::new([0; CODES]),
             told: Mutex::new(UNTOLD),
+            batches: Filling::new("batches"),
+            total: Filling::new("total"),
+            log_bytes: Filling::new("log_bytes"),
             is_news: Condvar::new(),
         }
     }
@@ -121,6 +136,34 @@ impl EventLog {
         let took = since(rt, asked);
         self.note(rt, Event::Saved { batches, took });
         *self.told.lock(rt) = UNTOLD;
+        self.log_bytes.begin_anew();
+    }
+
+    /// What fills up has these bounds from now on.
+    pub fn note_bounds(&self, bounds: Bounds) {
+        self.batches.begin(bounds.batches);
+        self.total.begin(bounds.total);
+        if let Some(most) = bounds.log_bytes {
+            self.log_bytes.begin(most);
+        }
+    }
+
+    /// So much is accepted by now. Each level that it passes is told once.
+    pub fn note_accepted<R: Wait>(&self, rt: &R, batches: u64, total: u64) {
+        self.note_filled(rt, self.batches.look(batches));
+        self.note_filled(rt, self.total.look(total));
+    }
+
+    /// The log has so many bytes by now. Each level that it passes is told once until a save.
+    pub fn note_log_bytes<R: Wait>(&self, rt: &R, bytes: u64) {
+        self.note_filled(rt, self.log_bytes.look(bytes));
+    }
+
+    // This level is passed, if one is.
+    fn note_filled<R: Wait>(&self, rt: &R, passed: Option<Filled>) {
+        if let Some(filled) = passed {
+            self.note(rt, Event::Filling(filled));
+        }
     }
 
     /// A save fails now that was asked for then, for this reason where it is known.

@@ -3,6 +3,7 @@
 use crate::error_lines::ErrorLines;
 use crate::event::{Event, FailedCall, Unsaved};
 use crate::file_sizes::FileSizes;
+use crate::filling::Filled;
 use crate::log::{CODES, EventLog, News};
 use crate::stamp::{Seconds, Stamp, since};
 use crate::waiting::{Waiting, Waits};
@@ -98,6 +99,7 @@ impl<'a, R: Wait + Clock + Eprint + FileSizes> Teller<'a, R> {
             Event::NotSaved { why, took } => self.tell_failure(why, Seconds(took)),
             Event::LogFailed { by } => self.tell_of_log("log-failed", by),
             Event::LogFull { by } => self.tell_of_log("log-full", by),
+            Event::Filling(filled) => self.tell_filling(filled),
             Event::Stopping => self.lines.say(format_args!("{now} stopping")),
             Event::Stopped { batches, total } => self.lines.say(format_args!(
                 "{now} stopped batches={batches} total={total}"
@@ -142,6 +144,19 @@ impl<'a, R: Wait + Clock + Eprint + FileSizes> Teller<'a, R> {
         };
         let error = io::Error::from_raw_os_error(code);
         self.lines.say(format_args!("{now} {event} path={path:?} call={call} error=\"{error}\""));
+    }
+
+    fn tell_filling(&mut self, filled: Filled) {
+        let now = self.now();
+        let Filled {
+            what,
+            percent,
+            used,
+            most,
+        } = filled;
+        self.lines.say(format_args!(
+            "{now} filling what={what} percent={percent} used={used} most={most}"
+        ));
     }
 
     fn tell_save(&mut self, batches: u64, took: Seconds) {

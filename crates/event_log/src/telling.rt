@@ -20,6 +20,8 @@ use std::time::{Clock, Duration};
 /// - `refused code count seconds`: once a minute, and at the end, for each code;
 /// - `saved batches bytes seconds`, `save-failed file step error seconds`: since it was asked for;
 /// - `log-failed path call error`: once until a save; `log-full path call error`: once a minute at most;
+/// - `filling what percent used most`: the book's `batches` or `total`, or the log's `log_bytes`, have passed 80 % or 95 %
+///   of their bound: once each, of the log once until a save;
 /// - `stopping`: no further connection is accepted; `stopped batches total`: the end;
 /// - `lost events`: so many lines could not be kept, or were dropped.
 pub fn tell_events<R: Wait + Clock + Eprint + FileSizes>(rt: &R, log: &EventLog) {

@@ -10,9 +10,12 @@ ghost use Rattle.hhm.specs.Asked.{IsAsked};
 
 mod asking;
 mod asking_cli;
+mod bad_words;
 mod cli;
+mod culprit;
 mod export_cli;
 mod given;
+mod holder;
 mod inputs;
 mod limits;
 mod log_report;
@@ -32,6 +35,7 @@ mod sum_files;
 mod told;
 
 use crate::asking::ask_word;
+use crate::culprit::{Culprit, culprit_of, culprit_of_server};
 use crate::given::numbers_of;
 use crate::memory::keep_freed_memory;
 use crate::numbers::read_list;
@@ -88,16 +92,45 @@ fn main(rt: HostRuntime) -> ExitCode {
             }
         }
         Err(fault) => {
-            let _ = eprintln!(rt; "hhm: {fault}");
+            tell_fault(&rt, &fault);
             fault.exit_code()
         }
     }
 }
 
-/// Says a server's fault in one line on standard error, unless that takes nothing for a second.
+/// The command line, as `clap` reads it; None where that can't be read again.
+fn words_again(rt: &HostRuntime) -> Option<Vec<String>> {
+    env::args(rt).ok()?.collect(rt.alloc()).ok()
+}
+
+/// Says a fault in one line on standard error, and what of the command line it is of.
+fn tell_fault(rt: &HostRuntime, fault: &Fault) {
+    let words = words_again(rt);
+    let matches = matches_of(rt, &words);
+    let culprit = match matches.as_ref().and_then(|matches| matches.subcommand()) {
+        Some((word, given)) => culprit_of(rt, fault, word, given),
+        None => Culprit::Nothing,
+    };
+    let _ = eprintln!(rt; "hhm: {fault}{culprit}");
+}
+
+/// Says a server's fault in one line on standard error, and what it is of, unless that takes nothing for a second.
 fn tell_server_fault(rt: &HostRuntime, fault: ServerFault) -> ExitCode {
-    ErrorLines::new(rt).say(format_args!("hhm: {fault}"));
+    let words = words_again(rt);
+    let matches = matches_of(rt, &words);
+    let culprit = match matches.as_ref().and_then(|matches| matches.subcommand()) {
+        Some((_, given)) => culprit_of_server(rt, &fault, given),
+        None => Culprit::Nothing,
+    };
+    ErrorLines::new(rt).say(format_args!("hhm: {fault}{culprit}"));
     ExitCode::from(status_of(&fault))
+}
+
+/// What `clap` makes of the words of a command line.
+fn matches_of<'a>(rt: &HostRuntime, words: &'a Option<Vec<String>>) -> Option<ArgMatches<'a>> {
+    let words = words.as_ref()?;
+    let command = cli::command(rt.alloc()).ok()?;
+    command.try_get_matches_from(words.as_slice()).ok()
 }
 
 /// Says that a sync of a server's log hangs, in which so many batches are durable.
@@ -192,7 +225,8 @@ fn run_roll_word(rt: &HostRuntime, given: &ArgMatches) -> ExitCode {
         Ok(()) => ExitCode::SUCCESS,
         Err(fault) => {
             let place = file_of_roll(&fault, to, words, logs);
-            let _ = eprintln!(rt; "hhm: {fault}{place}");
+            let culprit = culprit_of(rt, &fault, "roll", given);
+            let _ = eprintln!(rt; "hhm: {fault}{place}{culprit}");
             fault.exit_code()
         }
     }
@@ -227,7 +261,8 @@ fn run_sum_word(rt: &HostRuntime, given: &ArgMatches) -> ExitCode {
         Ok(()) => ExitCode::SUCCESS,
         Err(fault) => {
             let place = place_of(&fault, names);
-            let _ = eprintln!(rt; "hhm: {fault}{place}");
+            let culprit = culprit_of(rt, &fault, "sum", given);
+            let _ = eprintln!(rt; "hhm: {fault}{place}{culprit}");
             fault.exit_code()
         }
     }

@@ -41,8 +41,8 @@ pub fn top_query_of(given: &ArgMatches) -> Result<TopQuery, Fault> {
     })
 }
 
-// The numbers that a word A-B names, both in.
-fn read_span(word: &str) -> Option<Span> {
+/// The numbers that a word A-B names, both in.
+pub fn read_span(word: &str) -> Option<Span> {
     let (first, last) = word.split_once('-')?;
     let first = read_number(first.as_bytes())?;
     let last = read_number(last.as_bytes())?;

@@ -2,9 +2,11 @@
 //! `degrees`.
 ghost use Rattle.std.specs.Prelude.{◌<◌};
 
+use crate::culprit::{Culprit, culprit_of};
 use crate::inputs::{Before, Inputs, NamedLogs, NamedSnapshots, is_of_reading, place_of_input};
 use crate::query::{range_of, side_of, top_query_of};
 use crate::report::Fault;
+use crate::sum_files::Place;
 use crate::{Shown, clear, progress_line};
 use byte_io::Counted;
 use clap::ArgMatches;
@@ -58,7 +60,12 @@ fn run_on(
         Ok(()) => ExitCode::SUCCESS,
         Err(fault) => {
             let place = place_of_input(&fault, &inputs);
-            let _ = eprintln!(rt; "hhm: {fault}{place}");
+            let culprit = if matches!(place, Place::Nowhere) {
+                culprit_of(rt, &fault, word, given)
+            } else {
+                Culprit::Nothing
+            };
+            let _ = eprintln!(rt; "hhm: {fault}{place}{culprit}");
             fault.exit_code()
         }
     }

@@ -17,7 +17,7 @@ use snap_roll::{RollFault, run_roll};
 use std::alloc::AllocError;
 
 /// The number before a window's path, None where the word is a path alone, and the path.
-fn window_of(word: &str) -> Result<(Option<u64>, &str), Fault> {
+pub fn window_of(word: &str) -> Result<(Option<u64>, &str), Fault> {
     let Some((digits, path)) = word.split_once('=') else {
         return Ok((None, word));
     };

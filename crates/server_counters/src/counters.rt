@@ -5,7 +5,7 @@ use crate::frame_scan::Seen;
 use crate::put_times::PutTimes;
 use crate::sessions::SessionCounters;
 use std::alloc::{AllocError, Global};
-use std::sync::atomic::{AtomicU64, Ordering};
+use std::sync::atomic::{AtomicBool, AtomicU64, Ordering};
 use std::time::{Clock, Duration, Instant};
 
 /// The last save that was answered: how many batches it has, and how long ago that was, if the clock tells it.
@@ -33,6 +33,8 @@ pub struct Counters {
     sent: AtomicU64,
     saves: AtomicU64,
     failed_saves: AtomicU64,
+    // Whether the last save failed.
+    is_unsaved: AtomicBool,
     // Of the last save: how many batches, and how many milliseconds after the beginning, plus 1; 0 where that isn't
     // known.
     saved_batches: AtomicU64,
@@ -97,6 +99,7 @@ impl Counters {
             sent: AtomicU64::new(0),
             saves: AtomicU64::new(0),
             failed_saves: AtomicU64::new(0),
+            is_unsaved: AtomicBool::new(false),
             saved_batches: AtomicU64::new(0),
             saved_at: AtomicU64::new(0),
         })
@@ -164,17 +167,26 @@ impl Counters {
     fn note_refusal(&self, code: u16) {
         add_at(&self.codes, CODES.iter().position(|one| *one == code), 1);
         if code == SAVE_FAILED {
-            self.failed_saves.fetch_add(1, Ordering::SeqCst);
+            self.note_failed_save();
         }
+    }
+
+    /// A save that nobody asked for was refused before it wrote anything.
+    pub fn note_refused_save(&self) {
+        self.failed_saves.fetch_add(1, Ordering::SeqCst);
+    }
+
+    // A save has failed.
+    fn note_failed_save(&self) {
+        self.failed_saves.fetch_add(1, Ordering::SeqCst);
+        self.is_unsaved.store(true, Ordering::SeqCst);
     }
 
     /// A save that nobody asked for has ended, with so many batches, or has failed.
     pub fn note_own_save(&self, clock: &impl Clock, saved: Option<u64>) {
         match saved {
             Some(batches) => self.note_save(clock, batches),
-            None => {
-                self.failed_saves.fetch_add(1, Ordering::SeqCst);
-            }
+            None => self.note_failed_save(),
         }
     }
 
@@ -187,6 +199,7 @@ impl Counters {
         self.saved_batches.store(batches, Ordering::SeqCst);
         self.saved_at.store(at, Ordering::SeqCst);
         self.saves.fetch_add(1, Ordering::SeqCst);
+        self.is_unsaved.store(false, Ordering::SeqCst);
     }
 
     /// The cells of all batches that were accepted.
@@ -217,6 +230,19 @@ impl Counters {
     /// How many were refused with the code at a place of `CODES`.
     pub fn refusals(&self, place: usize) -> u64 {
         number_at(&self.codes, place)
+    }
+
+    /// Whether any request was refused with this code.
+    pub fn has_refused(&self, code: u16) -> bool {
+        match CODES.iter().position(|one| *one == code) {
+            Some(place) => self.refusals(place) > 0,
+            None => false,
+        }
+    }
+
+    /// Whether the last save failed.
+    pub fn has_failed_to_save(&self) -> bool {
+        self.is_unsaved.load(Ordering::SeqCst)
     }
 
     /// How many saves were made.

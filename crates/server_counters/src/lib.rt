@@ -6,14 +6,18 @@
 
 mod codes;
 mod counters;
+mod file_size;
 mod frame_scan;
 mod machine;
 mod put_times;
+mod reasons;
 mod sessions;
 
 pub use codes::{CODES, KINDS, KindName, VERSION};
 pub use counters::{Counters, LastSave};
+pub use file_size::most_file_bytes;
 pub use frame_scan::{FrameScan, Seen, Way};
 pub use machine::Machine;
 pub use put_times::{BOUNDS, Bound, PutTimes};
+pub use reasons::word_of_error;
 pub use sessions::{SessionCounters, SessionCounts};

@@ -1,8 +1,11 @@
 //! The numbers that a server tells of itself beside its setup and its status.
 
+use crate::failure::LastFailure;
+use crate::failures::push_failures;
+use crate::left::{push_left, push_log_left};
 use batch_store::ShardView;
 use layer_compaction::Layer;
-use locked_engine::{Engine, Named};
+use locked_engine::{Engine, Named, Status};
 use log_desk::{DeskFigures, Log, LogDesk};
 use log_folder::LogNews;
 use server_counters::{BOUNDS, CODES, Counters, KINDS, LastSave, Machine, PutTimes, VERSION};
@@ -13,19 +16,20 @@ use std::sync::ledger::Ledger;
 use std::time::Duration;
 use wire_proto::{Amount, Figure, Label, Labels};
 
-/// What is looked at for the numbers: the counters and the log, where there are such, how many batches were accepted,
-/// and whose the files are.
+/// What is looked at for the numbers: the counters and the log, where there are such, why the save that failed last did,
+/// what was accepted, and whose the files are.
 #[derive(Drop)]
 pub(crate) struct Sight<'a, N: Named, L: Log> {
     pub(crate) counters: Option<&'a Counters>,
     pub(crate) desk: Option<&'a LogDesk<N, L>>,
     pub(crate) news: Option<&'a LogNews>,
-    pub(crate) batches: u64,
+    pub(crate) failure: Option<&'a LastFailure>,
+    pub(crate) status: Status,
     pub(crate) identity: Identity,
 }
 
-// A number without labels.
-fn number(name: &'static str, n: u64) -> Figure {
+/// A number without labels.
+pub(crate) fn number(name: &'static str, n: u64) -> Figure {
     Figure {
         name,
         labels: Labels::None,
@@ -260,7 +264,7 @@ fn push_log(
     };
     out.push(number("log_pages", news.pages()))?;
     out.push(number("log_syncs_total", news.syncs()))?;
-    Ok(())
+    push_log_left(out, news)
 }
 
 /// The numbers, with the layers of all shards last. Of each shard it takes what is shown, as a cell does.
@@ -284,8 +288,11 @@ pub(crate) fn figures_of<N: Named, H: Ledger, L: Log, R: Wait + Machine>(
         let book = Amount::Hex(sight.identity.book());
         out.push(labelled("book", "id", book, 1))?;
     }
+    push_left(&mut out, &engine.setup(), sight.status)?;
     if let Some(counters) = sight.counters {
-        push_counters(rt, &mut out, counters, sight.batches)?;
+        push_counters(rt, &mut out, counters, sight.status.batches)?;
+        let is_log_failed = sight.desk.is_some_and(|desk| desk.is_failed(rt));
+        push_failures(rt, &mut out, counters, sight.failure, is_log_failed)?;
     }
     if let Some(desk) = sight.desk {
         push_log(&mut out, desk.figures(rt), desk.is_failed(rt), sight.news)?;

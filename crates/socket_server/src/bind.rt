@@ -11,7 +11,7 @@ use crate::shared::Shared;
 use crate::stop::StopGate;
 use crate::watched_listener::{Listen, WatchedListener};
 use byte_io::{Sink, WriteFault, write_all};
-use event_log::EventLog;
+use event_log::{EventLog, SystemWords};
 use mio::Waker;
 use server_counters::Counters;
 use session_pool::LastFailure;
@@ -94,14 +94,29 @@ pub fn tell<W: Sink>(out: &mut W, written: &mut u128, line: &str) -> Result<(), 
     }
 }
 
+// What it is told as that an address can't be listened at: with what the system says of it, where there is memory for
+// that.
+fn refused_at(alloc: Global, error: &io::Error, address: String) -> ServerFault
+    ensures { IsMetServing result }
+{
+    let words = match error.raw_os_error() {
+        Some(code) => format!(in alloc; "{address} ({})", SystemWords(code)),
+        None => format!(in alloc; "{address} ({error})"),
+    };
+    match words {
+        Ok(words) => ServerFault::Listen(words),
+        Err(_) => ServerFault::Listen(address),
+    }
+}
+
 // What a fault of a call at this address is told as.
-fn listen_fault(fault: io::Error, address: String) -> ServerFault
+fn listen_fault(alloc: Global, fault: io::Error, address: String) -> ServerFault
     ensures { IsMetServing result }
 {
     if fault.kind() == io::ErrorKind::OutOfMemory {
         ServerFault::Memory
     } else {
-        ServerFault::Listen(address)
+        refused_at(alloc, &fault, address)
     }
 }
 
@@ -120,8 +135,9 @@ fn bind_tcp<R: Net<Listener = TcpListener, Stream = TcpStream>, W: Sink>(
     let Some(address) = address else {
         return Ok(None);
     };
-    let Ok(listener) = TcpListener::bind(rt, address.as_str()) else {
-        return Err(ServerFault::Listen(address));
+    let listener = match TcpListener::bind(rt, address.as_str()) {
+        Ok(listener) => listener,
+        Err(error) => return Err(refused_at(alloc, &error, address)),
     };
     let Ok(own) = listener.local_addr() else {
         return Err(ServerFault::Listen(address));
@@ -134,7 +150,7 @@ fn bind_tcp<R: Net<Listener = TcpListener, Stream = TcpStream>, W: Sink>(
             tell(out, written, line.as_str())?;
             Ok(Some(watched))
         }
-        Err(fault) => Err(listen_fault(fault, address)),
+        Err(fault) => Err(listen_fault(alloc, fault, address)),
     }
 }
 
@@ -153,8 +169,9 @@ fn bind_path<R: Host + Net, W: Sink>(
     let Ok(line) = format!(in alloc; "listening unix {path}\n") else {
         return Err(ServerFault::Memory);
     };
-    let Ok(listener) = rt.bind_unix(path.as_str()) else {
-        return Err(ServerFault::Listen(path));
+    let listener = match rt.bind_unix(path.as_str()) {
+        Ok(listener) => listener,
+        Err(error) => return Err(refused_at(alloc, &error, path)),
     };
     let file = rt.file_id(path.as_str());
     let own = OwnPath { path, file };
@@ -162,7 +179,7 @@ fn bind_path<R: Host + Net, W: Sink>(
         Ok(made) => made,
         Err(fault) => {
             own.remove(rt);
-            return Err(listen_fault(fault, own.path));
+            return Err(listen_fault(alloc, fault, own.path));
         }
     };
     if let Err(fault) = tell(out, written, line.as_str()) {
