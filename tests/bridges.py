@@ -131,7 +131,8 @@ def faults_are_told():
         file.write(BANNER + b"3 3 2\n1 1 1\n")
     with open(cut, "wb") as file:
         file.write(b"hhm")
-    for path, status, told in [(broken, 3, "hhm: text: TooFewEntries at line 4"), (cut, 3, "hhm: snapshot: Truncated")]:
+    for path, status, told in [(broken, 3, "hhm: text: TooFewEntries at line 4"),
+                               (cut, 3, f"hhm: snapshot: Truncated ({cut})")]:
         try:
             check(path, hhm_cells.sum_of(path, server.PROGRAM), None)
         except hhm_cells.NoSum as fault:

@@ -23,6 +23,7 @@ import time
 
 import program
 import server
+from faults import bare
 from server import SMALL, check
 from server_faults import in_snap
 from snap_bytes import OWNED
@@ -458,7 +459,7 @@ def a_refused_save_is_told(prefix):
         # (the wrapper and the server write these lines, each when it can)
         said = {ENDS, "hhm-run: the save was refused; the server tries once more at its end\n", "hhm: file: Create\n"}
         output, error = at.process.communicate(timeout=WAIT)
-        found = (output, set(error.splitlines(keepends=True)), at.process.returncode)
+        found = (output, set(bare(error).splitlines(keepends=True)), at.process.returncode)
         check("a refused save", found, ("", said, 4))
     check("a refused save: nothing is saved", in_snap(path), EMPTY)
 

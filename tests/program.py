@@ -448,10 +448,10 @@ def an_input_that_stays_open(program):
 
 
 def a_limit_of_memory(program):
-    """With 32 MiB of addresses a small text is summed, and a million cells in as many rows are not."""
+    """With 24 MiB of addresses a small text is summed, and a million cells in as many rows are not."""
 
     def with_little_memory():
-        resource.setrlimit(resource.RLIMIT_AS, (1 << 25, 1 << 25))
+        resource.setrlimit(resource.RLIMIT_AS, (24 << 20, 24 << 20))
 
     cells = f"{BANNER}1000000 1000000 1000000\n" + "".join(f"{n} {n} 1\n" for n in range(1, 1_000_001))
     for case in [

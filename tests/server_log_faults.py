@@ -15,6 +15,7 @@ import sys
 import time
 
 import server
+from faults import bare
 from disks import CUTS, DIE_BEFORE, DIE_BEHIND, FAIL, HOLD, HOLD_AND_FAIL, OPENS, RENAMES, SHORT, SYNCS
 from disks import SYNCS_OF_FOLDERS, WRITES, Page, Room, is_until
 from log_bytes import PAGE, Log, block, entry_of, head, log
@@ -390,7 +391,7 @@ def judge_start(name, ended, action, call, whole):
         check(f"{name}: killed", ended[2], -9)
         return
     told = [("", f"hhm: {words}\n", 4) for words in TOLD[call]]
-    check(f"{name}: {ended}", ended in [whole, *told], True)
+    check(f"{name}: {ended}", bare(ended) in [whole, *told], True)
 
 
 def starts_tell_what_failed():

@@ -66,8 +66,11 @@ class Pair(NamedTuple):
                                    errors="replace")
         except OSError:
             raise Ended(4, f"{program}, which checks the copy, can't be run: give --program FILE") from None
-        said = ended.stdout if ended.returncode == 0 else ended.stderr
-        return Checked(ended.returncode, next(iter(said.splitlines()), "hhm was ended"))
+        said = next(iter((ended.stderr if ended.returncode else ended.stdout).splitlines()), "hhm was ended")
+        # The copy's own name says nothing to who asked: the copy goes.
+        for path in self.paths():
+            said = said.replace(f" ({path})", "")
+        return Checked(ended.returncode, said)
 
 
 def copy_of(path: str, folder: str) -> str:

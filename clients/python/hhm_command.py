@@ -280,7 +280,8 @@ def reason_of(given: argparse.Namespace, refused: Refused) -> str:
         with Client(tcp=given.tcp, unix=given.unix, timeout=SILENCE, attempts=1) as hhm:
             stats = hhm.stats()
         figures = module_of("hhm_figures")
-        words = [figures.REASONS.get(why, why) for name, why in figures.failures_of(stats) if name == refused.name]
+        words = [figures.REASONS.get(why, why) for name, why in figures.failures_of(stats)
+                 if name == refused.name and why != figures.OTHER]
     return f" ({words[-1]})" if words else ""
 
 

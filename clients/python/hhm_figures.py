@@ -31,6 +31,8 @@ KEPT = 600
 MINUTE, MINUTES = 60.0, 1440
 OF_MINUTES = ("resident_bytes", "log_bytes_left")
 HOUR, DAY = 3600.0, 86400.0
+# A reason that has no word of its own.
+OTHER = "other"
 # What the words of servers for the reasons of refusals say. One that isn't here is shown as it is.
 REASONS = {
     "no-space": "the disk is full", "quota": "the quota of the disk is used up", "file-size": "a limit of file sizes",

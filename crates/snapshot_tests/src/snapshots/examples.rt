@@ -23,8 +23,14 @@ fn first_batch(list: &BookList) -> Option<(u64, u64, u64)> {
     Some((batch.client, batch.number, batch.total))
 }
 
-// The first folded batch, the base's number of cells, total, and count in row 0, column 0.
-type Folded = (Option<Entry>, u64, u64, Option<u64>);
+// The row, column and count of the first cell of what is folded.
+fn first_cell(list: &BookList) -> Option<(u64, u64, u64)> {
+    let cell = list.base.cells().next()?;
+    Some((cell.row, cell.col, cell.count))
+}
+
+// The first folded batch, the base's number of cells and total, and its first cell.
+type Folded = (Option<Entry>, u64, u64, Option<(u64, u64, u64)>);
 
 // What these bytes are read as, in pieces of 7: whether with the setup of the examples, how many batches are folded and
 // how many are not, what is folded, and the first batch that isn't.
@@ -37,7 +43,7 @@ fn told_of(rt: &impl Abort, alloc: Global, bytes: &[u8]) -> Told {
         list.folded.first().copied(),
         list.base.entries(),
         list.base.total(),
-        list.base.get(0, 0),
+        first_cell(list),
     );
     let counts = [list.folded.len(), list.batches.len()];
     let told = (is_setup(&snapshot.setup), counts, folded, first_batch(list));
@@ -56,7 +62,7 @@ const ENTRY: Entry = Entry {
 #[test]
 fn examples_are_read(rt: HostRuntime) {
     let one = (true, [0, 1], (None, 0, 0, None), Some((7, 1, 5)));
-    let both = (true, [1, 1], (Some(ENTRY), 1, 5, Some(5)), Some((8, 1, 3)));
+    let both = (true, [1, 1], (Some(ENTRY), 1, 5, Some((0, 0, 5))), Some((8, 1, 3)));
     for bytes in [ONE, CHECKED_ONE, WRITTEN_ONE, NAMED_ONE] {
         assert!(rt; same_at(&rt, &bytes, &told_of(&rt, rt.alloc(), bytes), &one));
     }
