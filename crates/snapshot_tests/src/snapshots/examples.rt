@@ -62,7 +62,12 @@ const ENTRY: Entry = Entry {
 #[test]
 fn examples_are_read(rt: HostRuntime) {
     let one = (true, [0, 1], (None, 0, 0, None), Some((7, 1, 5)));
-    let both = (true, [1, 1], (Some(ENTRY), 1, 5, Some((0, 0, 5))), Some((8, 1, 3)));
+    let both = (
+        true,
+        [1, 1],
+        (Some(ENTRY), 1, 5, Some((0, 0, 5))),
+        Some((8, 1, 3)),
+    );
     for bytes in [ONE, CHECKED_ONE, WRITTEN_ONE, NAMED_ONE] {
         assert!(rt; same_at(&rt, &bytes, &told_of(&rt, rt.alloc(), bytes), &one));
     }
