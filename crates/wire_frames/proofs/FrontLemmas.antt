@@ -1,12 +1,12 @@
 -- What stands at the front of the bytes of a link, by the cases of a header.
 use Rattle.std.proofs.Common.{◌≡◌, ℕ, ◌+◌, ◌<◌, ◌≤◌, Bool, true, false, cond, nat_lt, List, ◌++◌, length, take, drop}
-use Rattle.std.proofs.Common.{refl, sym, ◌∙◌, ap, arith, length-append, length-drop, Option, Some, None, Result, Ok}
+use Rattle.std.proofs.Common.{inl, inr, subst, refl, sym, ◌∙◌, ap, arith, length-append, length-drop, Option, Some, None, Result, Ok}
 use Rattle.std.proofs.Common.{Err}
 use Rattle.std.proofs.lemmas.List.{take-append-le, drop-append-le, get_or_append_left}
 use Rattle.std.proofs.lemmas.Bool.{lt-ltb, le-ltb, ltb-true, ltb-false}
 use Rattle.std.proofs.lemmas.Option.{same_Some}
 use Rattle.wire_frames.specs.Frames.{front, behind_head, head_fault, fault_of_kind, length_fits, head_len, head_kind}
-use Rattle.wire_frames.specs.Frames.{request_of, NextGives}
+use Rattle.wire_frames.specs.Frames.{request_of, NextGives, IsPut, IsPutKind}
 use Rattle.wire_frames.specs.Looks.{LooksWhole}
 use Rattle.wire_frames.specs.declared.request.Request.{Request}
 use Rattle.wire_frames.specs.declared.request.FrameFault.{FrameFault}
@@ -74,9 +74,20 @@ looks_whole b h e whole = record {
   front_is = front_whole b h e whole;
 }
 
-pub some_front : (x y : List ℕ) (kind len : ℕ) → x ≡ y → LooksWhole y kind len →
-    (r : Request) × (rest : List ℕ) × (front x ≡ Some (Ok r, rest))
-some_front x y kind len e h = (request_of kind (take len (drop 5 y)), drop (5 + len) y, ap front e ∙ h.front_is)
+put_of_kind : (kind : ℕ) (body : List ℕ) → IsPutKind kind → IsPut (request_of kind body)
+unfolding request_of
+put_of_kind kind body (inl e) = subst (λ k. IsPut (request_of k body)) (sym e) tt
+put_of_kind kind body (inr e) = subst (λ k. IsPut (request_of k body)) (sym e) tt
+
+-- a put in front
+pub some_front : (x y : List ℕ) (kind len : ℕ) → x ≡ y → LooksWhole y kind len → IsPutKind kind →
+    (r : Request) × (rest : List ℕ) × (front x ≡ Some (Ok r, rest)) × IsPut r
+some_front x y kind len e h put = (
+  request_of kind (take len (drop 5 y)),
+  drop (5 + len) y,
+  ap front e ∙ h.front_is,
+  put_of_kind kind (take len (drop 5 y)) put,
+)
 
 -- ---- what a front says of the bytes
 headed_by : (b : List ℕ) (x : Result Request FrameFault × List ℕ) (v : Bool) → nat_lt (length b) 5 ≡ v →
@@ -96,7 +107,7 @@ faultless_by b r rest (Some f) h l e =
     let heads : ◌≡◌ {A = Result Request FrameFault} (Err f) (Ok r) = ap
     (λ (p : Result Request FrameFault × List ℕ). p.0) both in absurd (cc)
 
-faultless : (b : List ℕ) (r : Request) (rest : List ℕ) → front b ≡ Some (Ok r, rest) →
+pub faultless : (b : List ℕ) (r : Request) (rest : List ℕ) → front b ≡ Some (Ok r, rest) →
     head_fault (head_kind b) (head_len b) ≡ None
 faultless b r rest e = faultless_by b r rest (head_fault (head_kind b) (head_len b)) refl (headed b (Ok r, rest) e) e
 
@@ -109,7 +120,7 @@ whole_by b r rest false h e = ltb-false (length b) (5 + head_len b) h
 pub whole_front : (b : List ℕ) (r : Request) (rest : List ℕ) → front b ≡ Some (Ok r, rest) → 5 + head_len b ≤ length b
 whole_front b r rest e = whole_by b r rest (nat_lt (length b) (5 + head_len b)) refl e
 
-parts_front : (b : List ℕ) (r : Request) (rest : List ℕ) → front b ≡ Some (Ok r, rest) →
+pub parts_front : (b : List ℕ) (r : Request) (rest : List ℕ) → front b ≡ Some (Ok r, rest) →
     ◌≡◌ {A = Result Request FrameFault × List ℕ} (
       Ok (request_of (head_kind b) (take (head_len b) (drop 5 b))),
       drop (5 + head_len b) b,
@@ -128,11 +139,11 @@ front_shorter b r rest e =
     omega arith
 
 -- ---- bytes that go on further
-head_len_more : (b more : List ℕ) → 5 ≤ length b → head_len (b ++ more) ≡ head_len b
+pub head_len_more : (b more : List ℕ) → 5 ≤ length b → head_len (b ++ more) ≡ head_len b
 unfolding head_len
 head_len_more b more h = rw (take-append-le 4 b more (omega arith)) refl
 
-head_kind_more : (b more : List ℕ) → 5 ≤ length b → head_kind (b ++ more) ≡ head_kind b
+pub head_kind_more : (b more : List ℕ) → 5 ≤ length b → head_kind (b ++ more) ≡ head_kind b
 unfolding head_kind
 head_kind_more b more h = get_or_append_left b more 0 4 (omega arith)
 

@@ -1,3 +1,4 @@
 pub mod FrontLemmas
 pub mod RoundLemmas
 pub mod StreamLemmas
+pub mod ShortLemmas

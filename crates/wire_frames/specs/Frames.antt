@@ -1,5 +1,5 @@
 -- Frames: how requests are spelled, and what stands at the front of the bytes of a link.
-use Rattle.std.specs.Prelude.{◌≡◌, ℕ, zero, suc, ◌+◌, ◌-◌, ◌%◌, ◌<◌, ◌≤◌, ◌^◌, ◌==◌, ◌&&◌, Bool, true, false, List, [], ◌∷◌, ◌++◌}
+use Rattle.std.specs.Prelude.{◌≡◌, ◌⊎◌, ℕ, zero, suc, ◌+◌, ◌-◌, ◌%◌, ◌<◌, ◌≤◌, ◌^◌, ◌==◌, ◌&&◌, Bool, true, false, List, [], ◌∷◌, ◌++◌}
 use Rattle.std.specs.Prelude.{length, take, drop, slice_index, nat_lt, nat_le, if◌then◌else◌, Option, Some, None}
 use Rattle.std.specs.Prelude.{Result, Ok, Err}
 use Rattle.std.specs.Int.{w32, w64, to_be_bytes, from_be_bytes}
@@ -175,11 +175,31 @@ abbrev pub Gives : List ℕ → List Request → List ℕ → Type 0
 Gives bytes [] rest = bytes ≡ rest
 Gives bytes (r ∷ rs) rest = (m : List ℕ) × (front bytes ≡ Some (Ok r, m)) × Gives m rs rest
 
--- What a call of `next` gives, from the bytes that were kept, and what is kept then.
+-- a request that puts something; its text, or its cells, take memory of their own
+abbrev pub IsPut : Request → Type 0
+IsPut (Put client n text) = Unit {0}
+IsPut (PutCells client n cells) = Unit {0}
+IsPut r = ⊥
+
+-- a request that is answered without memory
+abbrev pub NeedsNoMemory : Request → Type 0
+NeedsNoMemory (Cell row col) = Unit {0}
+NeedsNoMemory (Row row) = Unit {0}
+NeedsNoMemory Status = Unit {0}
+NeedsNoMemory Stop = Unit {0}
+NeedsNoMemory Stored = Unit {0}
+NeedsNoMemory r = ⊥
+
+-- the kinds of puts
+abbrev pub IsPutKind : ℕ → Type 0
+IsPutKind kind = (kind ≡ 1) ⊎ (kind ≡ 8)
+
+-- What a call of `next` gives, from the bytes that were kept, and what is kept then. Memory is refused to a put alone.
 abbrev pub NextGives : List ℕ → Result (Option Request) FrameFault → List ℕ → Type 0
 NextGives old (Ok (Some r)) new = front old ≡ Some (Ok r, new)
 NextGives old (Ok None) new = (front old ≡ None) × (new ≡ old)
-NextGives old (Err Memory) new = (new ≡ old) × ((r : Request) × (rest : List ℕ) × (front old ≡ Some (Ok r, rest)))
+NextGives old (Err Memory) new =
+    (new ≡ old) × ((r : Request) × (rest : List ℕ) × (front old ≡ Some (Ok r, rest)) × IsPut r)
 NextGives old (Err fault) new = (new ≡ old) × (front old ≡ Some (Err fault, old))
 
 -- A message is a whole request, or a bad header. These are those at the front, and then more of them.

@@ -1,6 +1,8 @@
 //! Cuts the bytes of a link into requests.
 ghost use Rattle.std.specs.Prelude.{◌≡◌, ◌++◌, [], ◌+◌, ◌≤◌, length, take, drop, true, Some, IfOk, OnOk, OnErr};
-ghost use Rattle.wire_frames.specs.Frames.{NextGives, request_of, range_at, groups_at, pair_at, length_fits};
+ghost use Rattle.std.specs.Bool.{OnTrue, OnFalse};
+ghost use Rattle.wire_frames.specs.Frames.{NextGives, request_of, range_at, groups_at, number_at, pair_at, length_fits};
+ghost use Rattle.wire_frames.specs.Frames.{IsPutKind};
 
 use crate::heads::{Look, look_at};
 use crate::limits::{HEAD, ROOMY};
@@ -30,113 +32,131 @@ impl Model for Frames {
     ghost view = { λ f. f.bytes.items };
 }
 
-/// Takes two numbers off the front.
+/// The number that eight bytes from a place on spell.
 #[tactic(auto, unfolding(crate::specs::Frames::number_at))]
-fn get_pair(body: &mut Bytes) -> (u64, u64)
-    requires { 16 ≤ length body.old }
-    ensures pair { result ≡ pair_at 0 body.old }
-    ensures rest { body.new ≡ drop 16 body.old }
-    ensures less { length body.new + 16 ≡ length body.old }
+fn number_in(body: &[u8], place: usize) -> u64
+    requires { place + 8 ≤ length body.now }
+    ensures { result ≡ number_at place body.now }
 {
-    let first = body.get_u64();
-    let second = body.get_u64();
-    (first, second)
+    let mut rest = &body[place..];
+    rest.get_u64()
+}
+
+/// The two numbers from a place on.
+fn pair_in(body: &[u8], place: usize) -> (u64, u64)
+    requires { place + 16 ≤ length body.now }
+    ensures { result ≡ pair_at place body.now }
+{
+    (number_in(body, place), number_in(body, place + 8))
 }
 
 /// The Range that a body spells.
-#[tactic(auto, unfolding(crate::specs::Frames::number_at))]
-fn open_range(mut body: Bytes) -> Request
-    requires { length body ≡ 56 }
-    ensures { result ≡ range_at body }
+fn open_range(body: &[u8]) -> Request
+    requires { length body.now ≡ 56 }
+    ensures { result ≡ range_at body.now }
 {
-    let rows = get_pair(&mut body);
-    let cols = get_pair(&mut body);
-    let start = get_pair(&mut body);
-    let most = body.get_u64();
     Request::Range {
-        rows,
-        cols,
-        start,
-        most,
+        rows: pair_in(body, 0),
+        cols: pair_in(body, 16),
+        start: pair_in(body, 32),
+        most: number_in(body, 48),
     }
 }
 
 /// The question for groups that a body spells.
-#[tactic(auto, unfolding(crate::specs::Frames::number_at))]
-fn open_groups(mut body: Bytes) -> Request
-    requires { length body ≡ 26 }
-    ensures { result ≡ groups_at body }
+fn open_groups(body: &[u8]) -> Request
+    requires { length body.now ≡ 26 }
+    ensures { result ≡ groups_at body.now }
 {
-    let by = body.get_u8();
-    let shift = body.get_u8();
-    let most = body.get_u64();
-    let rows = get_pair(&mut body);
     Request::Groups {
-        by,
-        shift,
-        most,
-        rows,
+        by: body[0],
+        shift: body[1],
+        most: number_in(body, 2),
+        rows: pair_in(body, 10),
     }
 }
 
-/// The request that a whole frame spells, of a kind and a length that fit.
-#[tactic(auto, unfolding(crate::specs::Frames::request_of, crate::specs::Frames::length_fits, crate::specs::Frames::number_at))]
-fn open(kind: u8, mut body: Bytes) -> Request
-    requires { length_fits kind (length body) ≡ Some true }
+/// Whether a request of this kind puts something, which its body has.
+pub(crate) fn is_put(kind: u8) -> bool
+    ensures yes { OnTrue result (IsPutKind kind) }
+    ensures no { OnFalse result (IsPutKind kind → ⊥) }
+{
+    kind == 1 || kind == 8
+}
+
+/// The put that a whole frame spells. Its text, or its cells, are a view of the body.
+#[tactic(auto, unfolding(crate::specs::Frames::request_of, crate::specs::Frames::length_fits))]
+fn open_put(kind: u8, mut body: Bytes) -> Request
+    requires fits { length_fits kind (length body) ≡ Some true }
+    requires put { IsPutKind kind }
     ensures { result ≡ request_of kind body }
 {
+    let (client, number) = pair_in(body.as_slice(), 0);
+    body.advance(16);
     match kind {
-        1 => {
-            let (client, number) = get_pair(&mut body);
-            Request::Put {
-                client,
-                number,
-                text: body,
-            }
-        }
-        2 => {
-            let (row, col) = get_pair(&mut body);
-            Request::Cell { row, col }
-        }
+        1 => Request::Put {
+            client,
+            number,
+            text: body,
+        },
+        8 => Request::PutCells {
+            client,
+            number,
+            cells: body,
+        },
+        _ => unreachable!(),
+    }
+}
+
+/// The request that a whole frame spells which isn't a put. It takes no memory.
+#[tactic(auto, unfolding(crate::specs::Frames::request_of, crate::specs::Frames::length_fits))]
+pub(crate) fn open(kind: u8, body: &[u8]) -> Request
+    requires fits { length_fits kind (length body.now) ≡ Some true }
+    requires query { IsPutKind kind → ⊥ }
+    ensures { result ≡ request_of kind body.now }
+{
+    match kind {
+        2 => Request::Cell {
+            row: number_in(body, 0),
+            col: number_in(body, 8),
+        },
         3 => Request::Row {
-            row: body.get_u64(),
+            row: number_in(body, 0),
         },
         4 => Request::Status,
         5 => Request::Export,
         6 => Request::Save,
         7 => Request::Stop,
-        8 => {
-            let (client, number) = get_pair(&mut body);
-            Request::PutCells {
-                client,
-                number,
-                cells: body,
-            }
-        }
         9 => Request::Stored,
         10 => open_range(body),
-        11 => {
-            let by = body.get_u8();
-            let most = body.get_u64();
-            Request::Top { by, most }
-        }
+        11 => Request::Top {
+            by: body[0],
+            most: number_in(body, 1),
+        },
         12 => Request::Stats,
         18 => open_groups(body),
         _ => Request::Fold,
     }
 }
 
-/// Takes a whole frame off the front. An Err changes nothing.
+/// Takes a whole frame off the front. An Err changes nothing, and comes at a put alone.
 fn cut(bytes: &mut BytesMut, kind: u8, len: u32) -> Result<Request, AllocError>
     requires whole { 5 + len ≤ length bytes.old.items }
     requires fits { length_fits kind len ≡ Some true }
     ensures ok { IfOk result (λ r. r ≡ request_of kind (take len (drop 5 bytes.old.items))) }
     ensures rest { OnOk result (bytes.new.items ≡ drop (5 + len) bytes.old.items) }
     ensures err { OnErr result (bytes.new ≡ bytes.old) }
+    ensures put { OnErr result (IsPutKind kind) }
 {
-    let mut body = bytes.freeze_to(HEAD + len as usize)?;
-    body.advance(HEAD);
-    Ok(open(kind, body))
+    let end = HEAD + len as usize;
+    if is_put(kind) {
+        let mut body = bytes.freeze_to(end)?;
+        body.advance(HEAD);
+        return Ok(open_put(kind, body));
+    }
+    let request = open(kind, &bytes.as_slice()[HEAD..end]);
+    bytes.advance(end);
+    Ok(request)
 }
 
 /// Moves the bytes to a new buffer, if this one held many and few are left; where there is no memory for that, they
@@ -172,6 +192,13 @@ impl Frames {
         self.bytes.len()
     }
 
+    /// The bytes that are kept.
+    pub(crate) fn as_slice(&self) -> &[u8]
+        ensures { result.now ≡ self.now }
+    {
+        self.bytes.as_slice()
+    }
+
     /// Takes the next bytes of the link. An Err changes nothing.
     pub fn feed(&mut self, _alloc: Global, piece: &[u8]) -> Result<(), AllocError>
         ensures ok { OnOk result (self.new ≡ self.old ++ piece.now) }
@@ -185,7 +212,7 @@ impl Frames {
     /// The next request, once its frame is whole; None where it isn't yet.
     ///
     /// A header is judged as soon as its five bytes are there. A bad one stays at the front, so the same fault is
-    /// answered from then on, whatever is fed. Memory changes nothing.
+    /// answered from then on, whatever is fed. Memory changes nothing, and comes where a put is in front alone.
     pub fn next(&mut self, alloc: Global) -> Result<Option<Request>, FrameFault>
         ensures { NextGives self.old result self.new }
     {

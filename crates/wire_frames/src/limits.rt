@@ -11,3 +11,6 @@ pub const CELL: usize = 24;
 
 /// How many bytes a buffer may have held and still be kept for the next frames.
 pub const ROOMY: usize = 4_194_304;
+
+/// The bytes of a reserve: a piece of 65,536 bytes, behind an unfinished frame of a request that needs no memory.
+pub const RESERVE: usize = 65_600;
