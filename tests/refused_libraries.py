@@ -116,6 +116,12 @@ def served(before):
     return ways
 
 
+# The answers of an empty engine to a Status, a Stored, a Cell, a Row and a Stop, none of which needs memory.
+COUNTS = bytes.fromhex("0000001084") + bytes(16)
+SHORT = [COUNTS, COUNTS, bytes.fromhex("0000000982") + bytes(9), bytes.fromhex("0000001083") + bytes(16),
+         bytes.fromhex("0000000087")]  # fmt: skip
+
+
 WHOLE = session("closed, bytes left 0", b"".join(REPLIES), 2)
 
 SCENARIOS = {
@@ -228,7 +234,18 @@ def session_outputs():
     return found
 
 
-ALLOWED = {name: outputs(name, steps) for name, steps in SCENARIOS.items()} | {"session": session_outputs()}
+def short_outputs():
+    """The same of requests that need no memory: none is refused, but the link may lack memory for what it is written."""
+    answered = ["stopped", b"".join(SHORT).hex()]
+    found = {text(["short", *answered]): None, text(["short", "buffers refused", *answered]): 0}
+    for count in range(len(SHORT)):
+        front = b"".join(SHORT[:count])
+        found[text(["short", f"write refused behind bytes {len(front)}", front.hex()])] = 1
+    return found
+
+
+ALLOWED = {name: outputs(name, steps) for name, steps in SCENARIOS.items()} | {
+    "session": session_outputs(), "short": short_outputs()}
 # What a scenario needs beside its calls was refused, or the name that it was asked for by.
 SET_UP = "set-up refused\n"
 

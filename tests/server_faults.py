@@ -38,7 +38,7 @@ ONE = program.snapshot([(7, 1, [(0, 0, 5)])], 5, past=program.NONE, origin=OWNED
 OTHER = 54321
 GROUP = 54322
 
-STATUS = struct.pack(">IB", 0, 4)
+STATUS, STORED = (struct.pack(">IB", 0, kind) for kind in (4, 9))
 SAVE, FOLD = (struct.pack(">IB", 0, kind) for kind in (6, 13))
 STOP = struct.pack(">IB", 0, 7)
 STOPPING = struct.pack(">IB", 0, 0x87)
@@ -412,6 +412,57 @@ def memory_is_refused():
     os.remove(path)
 
 
+def puts_until_refused(at, size, number):
+    """Puts batches of so many cells until a new session's first one is refused, and answers the number that comes next."""
+    for _ in range(1000):
+        first = number
+        with at.client(1, attempts=1) as hhm, contextlib.suppress(server.Refused):
+            while True:
+                hhm.put(number, [(number * 1000 + i, i, 1) for i in range(size)])
+                number += 1
+        if number == first:
+            return number
+    check("little memory left: puts are refused in the end", False, True)
+    return number
+
+
+def without_memory_a_server_is_asked_and_stopped():
+    """At its limit of memory a server refuses puts; each of its workers tells a Status and so on, and stops."""
+    workers, how = 8, {"env": {**os.environ, "MALLOC_ARENA_MAX": "1"}}
+    words = ["--rows", str(1 << 40), "--cols", str(1 << 40), "--workers", str(workers), "--fold-above", "0"]
+    with Server(words, tcp=False, **how) as at:
+        # All workers are there once each holds a session.
+        links = [at.link() for _ in range(workers)]
+        check("little memory left: before", [asked(link, STATUS, 21) for link in links], [counts(0, 0)] * workers)
+        for link in links:
+            link.close()
+        with open(f"/proc/{at.process.pid}/statm", encoding="ascii") as file:
+            room = int(file.read().split()[0]) * resource.getpagesize() + (16 << 20)
+        resource.prlimit(at.process.pid, resource.RLIMIT_AS, (room, room))
+        number = 1
+        for size in (1000, 100, 1):
+            number = puts_until_refused(at, size, number)
+        with at.link() as link:
+            told = asked(link, STATUS, 21)
+        # Row 1000 is the first of the first batch.
+        asks = [(STATUS, told), (STORED, told),
+                (struct.pack(">IBQQ", 16, 2, 1000, 0), struct.pack(">IBBQ", 9, 0x82, 1, 1)),
+                (struct.pack(">IBQ", 8, 3, 1000), struct.pack(">IBQQ", 16, 0x83, 1, 1))]  # fmt: skip
+        held = [at.link() for _ in range(workers - 1)]
+        for link in held:
+            check("little memory left: asked", [asked(link, frame, len(reply)) for frame, reply in asks],
+                  [reply for _, reply in asks])
+        batches, total = struct.unpack(">QQ", told[5:])
+        ended = subprocess.run([server.PROGRAM, "status", f"unix:{at.path}"], capture_output=True, text=True, timeout=WAIT)
+        check("little memory left: hhm status", (ended.stdout, ended.stderr, ended.returncode),
+              (f"batches {batches} total {total}\n", "", 0))
+        ended = subprocess.run([server.PROGRAM, "end", f"unix:{at.path}"], capture_output=True, text=True, timeout=WAIT)
+        check("little memory left: hhm end", (ended.stdout, ended.returncode), ("stopping\n", 0))
+        for link in held:
+            link.close()
+        at.ends("little memory left", batches, total)
+
+
 def as_other(most):
     """Makes this process one of a user without others, who may have so many threads in all."""
     if os.getuid() == 0:
@@ -700,6 +751,7 @@ def all_are_tried():
     no_output_is_taken()
     the_last_line_is_not_taken()
     memory_is_refused()
+    without_memory_a_server_is_asked_and_stopped()
     no_thread_is_started()
     compactors_are_started()
     for unix in [True, False]:

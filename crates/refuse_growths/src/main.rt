@@ -18,6 +18,7 @@ mod running;
 mod sealing;
 mod seats;
 mod session;
+mod short;
 mod show;
 mod snapshot;
 mod stop;
@@ -42,6 +43,7 @@ static NAMES: &[&str] = &[
     "locked",
     "frames",
     "session",
+    "short",
     "snapshot",
 ];
 
@@ -106,6 +108,7 @@ fn run_scenario<R: Wait + Print + RandomSource + Files>(
         "locked" => locked::run(rt, alloc),
         "frames" => frames::run(rt, alloc),
         "session" => session::run(rt, alloc),
+        "short" => short::run(rt, alloc),
         "snapshot" => snapshot::run(rt, alloc),
         _ => Err(Stop::Fault),
     }

@@ -81,10 +81,11 @@ fn serve(rt: &impl Print, alloc: Global, engine: &mut PlainEngine, list: Vec<Vec
     ended == Ended::Closed { rest: 0 }
 }
 
-fn show_end(rt: &impl Print, ended: Ended) {
+pub(crate) fn show_end(rt: &impl Print, ended: Ended) {
     match ended {
         Ended::Closed { rest } => tell(rt, &[("closed, bytes left", rest)]),
         Ended::Memory => say(rt, "session refused"),
+        Ended::Stopped => say(rt, "stopped"),
         Ended::WriteFault { written } => {
             tell(
                 rt,
@@ -98,7 +99,7 @@ fn show_end(rt: &impl Print, ended: Ended) {
     }
 }
 
-fn show_written(rt: &impl Print, link: &Script) {
+pub(crate) fn show_written(rt: &impl Print, link: &Script) {
     for byte in link.written() {
         let _ = print!(rt; "{byte:02x}");
     }

@@ -27,6 +27,8 @@ use Rattle.wire_proto.specs.Settling.{settled_reply, SettlesOne, SettlesAll, Sen
 use Rattle.wire_proto.specs.Settling.{AnswersSettled, SettlesEarlier}
 use Rattle.wire_proto.specs.Sessions.{AsksToPut, AnswersAll, Stands, Stops, OneEnds, OneAnswered, Carries}
 use Rattle.wire_proto.specs.Sessions.{CarriesToEnd, Owes, Holds, Hands, HandsToEnd, CarriesHeld, asked, out}
+use Rattle.wire_proto.specs.Sessions.{to_answer}
+use Rattle.wire_frames.proofs.ShortLemmas.{put_takes}
 use Rattle.wire_proto.specs.declared.ended.Ended.{Ended}
 use Rattle.wire_proto.specs.declared.ended.Ended.TheVariants.{WriteFault, Memory}
 use Rattle.wire_proto.specs.declared.held.Begun.{Begun}
@@ -485,16 +487,17 @@ module _ {L S : Type 0} (reads : L → Answer → L → Type 0) (writes : L → 
   -- memory ran out for one more: what is held back was settled and sent, and then that it did
   pub hands_out : RefusesAtOnce gives begins settles → SettlesEarlier gives begins settles → (l m l' : L) (s s' t : S)
       (kept rest : List ℕ) (begun : List Begun) (r : Request) (reply : List ℕ) (written sent : ℕ) (result : Ended) →
-      front kept ≡ Some (Ok r, rest) → BeginsOut begins setup r s s' →
+      front kept ≡ Some (Ok r, rest) → AsksToPut r → BeginsOut begins setup r s s' →
       SendsSettled settles writes failures s' t l m begun written (Ok sent) → reply ≡ refused 1 0 →
       Closes writes failures m l' reply sent Memory result →
       HandsToEnd reads writes failures gives settles setup l l' s t kept begun written result
-  hands_out at_once earlier l m l' s s' t kept rest begun r reply written sent result h lacks sends is c =
+  hands_out at_once earlier l m l' s s' t kept rest begun r reply written sent result h put lacks sends is c =
       λ l0 s0 turns st.
       let x = out_behind gives begins settles setup at_once earlier s s' t r begun sends.0 lacks sends.1 in
       let none = asked r rest h x.2 in
       stands_ended reads writes failures gives setup l0 m l' s0 x.0 t kept sent turns result
-      (closes_ends writes failures gives setup kept m l' x.0 t reply sent Memory result c (none, is) (out none is))
+      (closes_ends writes failures gives setup kept m l' x.0 t reply sent Memory result c (none, is) (out none is)
+      (λ e. to_answer r rest h (put_takes r put)))
       (holds_sent reads writes failures gives settles setup l0 l m s0 s x.0 kept begun sends.0 written sent turns x.1
       sends.2.1 sends.2.0 st)
 

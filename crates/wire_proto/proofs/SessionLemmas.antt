@@ -21,7 +21,8 @@ use Rattle.wire_proto.specs.Answering.{Answers, RunsOut}
 use Rattle.wire_proto.specs.Sessions.{gave, bytes_given, Talks, AnswersAll, Stands, unasked, NextReply}
 use Rattle.wire_proto.specs.Sessions.{answer as answered, bad, out, LastReply, Carries, CarriesToEnd, TurnEnds, Says}
 use Rattle.wire_proto.specs.Sessions.{Rests, FailsToRead, Stops, Ends, OneEnds, says, breaks, OneAnswered}
-use Rattle.wire_proto.specs.Sessions.{AsksToPut, AllPut, Owes, alone, among_puts}
+use Rattle.wire_proto.specs.Sessions.{AsksToPut, AllPut, Owes, alone, among_puts, TakesMemory, to_answer}
+use Rattle.wire_frames.proofs.ShortLemmas.{put_takes}
 use Rattle.wire_proto.specs.declared.ended.Ended.{Ended}
 use Rattle.wire_proto.specs.declared.ended.Ended.TheVariants.{Closed, ReadFault, WriteFault, BadFrame, Memory, Stopped}
 use Rattle.wire_proto.specs.declared.ended.Ended.TheVariants.{TooManyTurns}
@@ -187,10 +188,12 @@ module _ {L S : Type 0} (writes : L → List ℕ → Answer → L → Type 0) (f
   -- a reply that closes the session
   pub closes_ends : (kept : List ℕ) (l l' : L) (s s' : S) (reply : List ℕ) (written : ℕ) (ended result : Ended) →
       Closes writes failures l l' reply written ended result → LastReply gives setup kept reply s s' ended →
-      NextReply gives setup kept reply s s' →
+      NextReply gives setup kept reply s s' → (ended ≡ Memory → TakesMemory kept) →
       OneEnds writes failures gives setup kept l l' s s' written result
-  closes_ends kept l l' s s' reply written ended result (whole taken e) last next = says reply (rw e last) taken
-  closes_ends kept l l' s s' reply written ended result (part i stopped e) last next = breaks reply i next stopped e
+  closes_ends kept l l' s s' reply written ended result (whole taken e) last next takes =
+      says reply (rw e last) (λ m. takes (sym e ∙ m)) taken
+  closes_ends kept l l' s s' reply written ended result (part i stopped e) last next takes =
+      breaks reply i next stopped e
 
   -- a reply that was sent whole, or in part
   pub sends_answered : (r : Request) (l l' : L) (s s' : S) (reply : List ℕ) (written : ℕ) (result : Result ℕ Ended) →
@@ -218,13 +221,13 @@ module _ {L S : Type 0} (writes : L → List ℕ → Answer → L → Type 0) (f
       (ended_of fault) result →
       OneEnds writes failures gives setup old l l' s s written result
   closes_fault old new NoMemory l l' s written result n c = closes_ends old l l' s s _ written _ result c
-      (unasked refl, refl) (out (unasked refl) refl)
+      (unasked refl, refl) (out (unasked refl) refl) (λ m. to_answer n.1 n.2 n.3 (put_takes n.1 n.4))
   closes_fault old new TooLarge l l' s written result n c = closes_ends old l l' s s _ written _ result c
-      (TooLarge, n.1, refl, refl) (bad TooLarge n.1 refl refl)
+      (TooLarge, n.1, refl, refl) (bad TooLarge n.1 refl refl) (λ m. absurd (cc))
   closes_fault old new UnknownKind l l' s written result n c = closes_ends old l l' s s _ written _ result c
-      (UnknownKind, n.1, refl, refl) (bad UnknownKind n.1 refl refl)
+      (UnknownKind, n.1, refl, refl) (bad UnknownKind n.1 refl refl) (λ m. absurd (cc))
   closes_fault old new BadLength l l' s written result n c = closes_ends old l l' s s _ written _ result c
-      (BadLength, n.1, refl, refl) (bad BadLength n.1 refl refl)
+      (BadLength, n.1, refl, refl) (bad BadLength n.1 refl refl) (λ m. absurd (cc))
 
 module _ {L S : Type 0} (reads : L → Answer → L → Type 0) (writes : L → List ℕ → Answer → L → Type 0) (failures : L → ℕ)
     (gives : S → Event → S → Type 0) (setup : Setting) where
@@ -261,7 +264,7 @@ module _ {L S : Type 0} (reads : L → Answer → L → Type 0) (writes : L → 
       OneEnds writes failures gives setup kept l l' s s' written e →
       Stands reads writes failures gives setup l0 l s0 s kept written turns →
       Stops reads writes failures gives setup l0 l' s0 s' turns e
-  stands_ended l0 l l' s0 s s' kept written turns e (says reply last taken) a =
+  stands_ended l0 l l' s0 s s' kept written turns e (says reply last takes taken) a =
       says_stops l0 l' s0 s' turns e (record {
         kept = kept;
         reply = reply;
@@ -277,6 +280,7 @@ module _ {L S : Type 0} (reads : L → Answer → L → Type 0) (writes : L → 
           written_is = a.written_is;
         };
         last = last;
+        takes = λ m. inr (takes m);
       })
   stands_ended l0 l l' s0 s s' kept written turns e (breaks reply i next stopped is) a =
       subst (λ v. Stops reads writes failures gives setup l0 l' s0 s' turns v) (sym is) (record {
@@ -467,12 +471,12 @@ module _ {L S : Type 0} (reads : L → Answer → L → Type 0) (writes : L → 
 
   -- memory ran out before the keeper was asked
   pub out_of_memory : (kept : List ℕ) (l l' : L) (s : S) (written : ℕ) (result : Ended) →
-      Closes writes failures l l' (refused 1 0) written Memory result →
+      Closes writes failures l l' (refused 1 0) written Memory result → TakesMemory kept →
       CarriesToEnd reads writes failures gives setup l l' s s kept written result
-  out_of_memory kept l l' s written result c = λ l0 s0 turns st.
+  out_of_memory kept l l' s written result c takes = λ l0 s0 turns st.
       stands_ended l0 l l' s0 s s kept written turns result
       (closes_ends writes failures gives setup kept l l' s s (refused 1 0) written Memory result c (unasked refl, refl)
-      (out (unasked refl) refl)) st
+      (out (unasked refl) refl) (λ m. takes)) st
 
   -- a turn that read something and went on
   pub carries_turn : (l m l' : L) (s s' : S) (kept bytes kept' : List ℕ) (written : ℕ) (result : Result ℕ Ended) →
@@ -508,3 +512,30 @@ module _ {L S : Type 0} (reads : L → Answer → L → Type 0) (writes : L → 
     each_gave = omega arith;
     none_failed = refl;
   }
+
+  -- before the first read
+  pub never_begun : (l l' : L) (s : S) (result : Ended) →
+      Closes writes failures l l' (refused 1 0) 0 Memory result →
+      Stops reads writes failures gives setup l l' s s 0 result
+  never_begun l l' s result (whole taken e) =
+      subst (λ v. Stops reads writes failures gives setup l l' s s 0 v) (sym e) (record {
+        kept = [];
+        reply = refused 1 0;
+        mid = s;
+        written = 0;
+        before = record {
+          given = [];
+          replies = [];
+          requests = [];
+          talks = talks_taken reads writes failures l l l' [] [] (refused 1 0) 0
+              (record { moves = []; run = refl; given_is = refl; taken_is = refl; turns_are = refl }) taken;
+          cut = refl;
+          answered = (refl, refl);
+          written_is = refl;
+        };
+        last = (unasked refl, refl);
+        takes = λ m. inl refl;
+      })
+  never_begun l l' s result (part i stopped e) =
+      stands_ended l l l' s s s [] 0 0 result (breaks (refused 1 0) i (out (unasked refl) refl) stopped e)
+      (stands_first l s)

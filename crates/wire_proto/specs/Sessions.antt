@@ -5,6 +5,7 @@
 --     Stands          a session under way, between two replies
 --     Owes            a session under way, which has the replies to the last puts and hasn't sent them
 --     Holds           a session under way, whose last puts were begun and aren't settled; Stands is one that holds none
+--     TakesMemory     what is kept of the bytes of a link can't be kept, or answered, without memory
 --     NextReply       a reply that may come next; LastReply: with which a session ends so
 --     Rests           a session that ended between two replies
 --     FailsToRead     a session that stood between two replies, and whose last call was a read that failed
@@ -19,14 +20,15 @@ use Rattle.byte_io.specs.Streams.{Answer}
 use Rattle.byte_io.specs.declared.fault.DeviceFault.{DeviceFault}
 use Rattle.byte_io.specs.Writing.{HasTaken, HasStopped}
 use Rattle.batch_store.specs.Setups.{Setting}
-use Rattle.wire_frames.specs.Frames.{front, Gives}
+use Rattle.wire_frames.specs.Frames.{front, Gives, IsPut, NeedsNoMemory}
+use Rattle.wire_frames.specs.declared.limits.TheConstants.{RESERVE}
 use Rattle.wire_proto.specs.Keeping.{Event}
 use Rattle.wire_proto.specs.Replies.{stopping, refused, fault_code}
 use Rattle.wire_proto.specs.Answering.{Answers, RunsOut}
 use Rattle.wire_proto.specs.Settling.{SettlesAll}
 use Rattle.wire_proto.specs.declared.held.Begun.{Begun}
 use Rattle.wire_frames.specs.declared.request.Request.{Request}
-use Rattle.wire_frames.specs.declared.request.Request.TheVariants.{Put, PutCells, Stop}
+use Rattle.wire_frames.specs.declared.request.Request.TheVariants.{Stop}
 use Rattle.wire_frames.specs.declared.request.FrameFault.{FrameFault}
 use Rattle.wire_proto.specs.declared.ended.Ended.{Ended}
 use Rattle.wire_proto.specs.declared.ended.Ended.TheVariants.{Closed, ReadFault, WriteFault, BadFrame, Memory, Stopped}
@@ -79,13 +81,19 @@ AnswersAll gives setup s (r ∷ rs) bytes t =
 
 -- a request that puts a batch, as a text or as cells
 abbrev pub AsksToPut : Request → Type 0
-AsksToPut (Put client n bytes) = Unit {0}
-AsksToPut (PutCells client n bytes) = Unit {0}
-AsksToPut r = ⊥
+AsksToPut r = IsPut r
 
 abbrev pub AllPut : List Request → Type 0
 AllPut [] = Unit {0}
 AllPut (r ∷ rs) = AsksToPut r × AllPut rs
+
+-- What is kept takes memory: a request stands in front that isn't answered without, or more is kept than the reserve
+-- of a session has, behind which no request comes that is.
+pub data TakesMemory (kept : List ℕ) : Type 0 where
+  to_answer : (r : Request) (rest : List ℕ) → front kept ≡ Some (Ok r, rest) → (NeedsNoMemory r → ⊥) →
+      TakesMemory kept
+  to_keep : RESERVE < length kept →
+      ((r : Request) (rest : List ℕ) → front kept ≡ Some (Ok r, rest) → NeedsNoMemory r → ⊥) → TakesMemory kept
 
 -- Memory ran out: nothing was asked, or it ran out for the request in front.
 pub data LacksMemory {S : Type 0} (gives : S → Event → S → Type 0) (setup : Setting) (kept : List ℕ)
@@ -139,8 +147,8 @@ module _ {L S : Type 0} (writes : L → List ℕ → Answer → L → Type 0) (f
     (setup : Setting) where
   -- A reply to what stands in front: taken whole at the end of the session, or in part.
   pub data OneEnds (kept : List ℕ) (l l' : L) (s t : S) (written : ℕ) (e : Ended) : Type 0 where
-    says : (reply : List ℕ) → LastReply gives setup kept reply s t e → HasTaken writes failures l l' reply →
-        OneEnds kept l l' s t written e
+    says : (reply : List ℕ) → LastReply gives setup kept reply s t e → (e ≡ Memory → TakesMemory kept) →
+        HasTaken writes failures l l' reply → OneEnds kept l l' s t written e
     breaks : (reply : List ℕ) (i : ℕ) → NextReply gives setup kept reply s t → HasStopped writes failures l l' reply i →
         e ≡ WriteFault (written + i) → OneEnds kept l l' s t written e
 
@@ -201,6 +209,8 @@ module _ {L S : Type 0} (reads : L → Answer → L → Type 0) (writes : L → 
     pub written : ℕ
     pub before : Then l l' s mid kept reply written turns
     pub last : LastReply gives setup kept reply mid s' ended
+    -- Memory ran out before the first read, or for what is kept.
+    pub takes : ended ≡ Memory → (turns ≡ 0) ⊎ TakesMemory kept
 
   pub record Breaks (l l' : L) (s s' : S) (turns n : ℕ) : Type 0 where
     pub kept : List ℕ

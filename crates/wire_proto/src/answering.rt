@@ -16,7 +16,7 @@ use crate::replies::{refused, stopping};
 use crate::sending::{close, send_answer, send_sum};
 use byte_io::{Link, Sink};
 use std::alloc::Global;
-use wire_frames::{FrameFault, Frames, Request};
+use wire_frames::{FrameFault, ReservedFrames, Request};
 
 /// Answers an Export: its text, its refusal as too large, or that memory ran out.
 fn answer_export<L: Sink, K: Keeper>(
@@ -224,7 +224,7 @@ pub fn answer_all<L: Link, K: Keeper>(
     alloc: Global,
     link: &mut L,
     keeper: &mut K,
-    frames: &mut Frames,
+    frames: &mut ReservedFrames,
     before: u128,
 ) -> Result<u128, Ended>
     requires ready { L.Sink.failure_count link.old + 1 < 2 ^ 64 }

@@ -2,6 +2,7 @@
 ghost use Rattle.std.specs.Prelude.{◌≡◌, ◌≢◌, ℕ, ◌+◌, ◌<◌, ◌≤◌, ◌^◌, length, Some, None, IfOk, OnErr};
 ghost use Rattle.wire_proto.specs.LongReplies.{bytes_of};
 ghost use Rattle.wire_proto.specs.Answering.{Answers, RunsOut};
+ghost use Rattle.wire_frames.specs.Frames.{NeedsNoMemory};
 ghost use Rattle.wire_proto.specs.Sessions.{AsksToPut};
 ghost use Rattle.wire_proto.specs.Settling.{Begins, BeginsOut, begun_as};
 
@@ -209,6 +210,7 @@ pub fn ask<K: Keeper>(alloc: Global, keeper: &mut K, request: Request) -> Result
         (bytes_of reply) keeper.old keeper.new) }
     ensures few { IfOk result (λ reply. length (bytes_of reply) ≤ 2 ^ 27) }
     ensures none { OnErr result (RunsOut K.gives (K.setup_of keeper.old) request keeper.old keeper.new) }
+    ensures memory { OnErr result (NeedsNoMemory request → ⊥) }
     ensures fact { K.fact keeper.new }
     ensures setup { K.setup_of keeper.new ≡ K.setup_of keeper.old }
 {

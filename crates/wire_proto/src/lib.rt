@@ -6,11 +6,12 @@
 //! memory or the link refuses. It works over any `Keeper`, a store that answers calls, and over any link; what it does
 //! is a run of the keeper (specs/Sessions.antt), and whatever the keeper keeps is kept.
 //!
-//! A session has one buffer and one piece of 64 KiB for its reads. A frame's bytes are copied into the buffer once, and
-//! a put's text is read where it lies; replies but texts are made on the stack, and a text is written by a walk over
-//! the matrix's cells, behind another for its length. A client that got no reply sends its put again under the same
-//! two numbers, as calls are repeated in remote procedure calls (Birrell and Nelson, 1984, "Implementing Remote
-//! Procedure Calls").
+//! A session has one buffer, one piece of 64 KiB for its reads, and a reserve, with which requests that need no memory
+//! are answered where there is none; a worker makes them once for its sessions (`Buffers`, `serve_with`). A frame's
+//! bytes are copied into the buffer once, and a put's text is read where it lies; replies but texts are made on the
+//! stack, and a text is written by a walk over the matrix's cells, behind another for its length. A client that got no
+//! reply sends its put again under the same two numbers, as calls are repeated in remote procedure calls (Birrell and
+//! Nelson, 1984, "Implementing Remote Procedure Calls").
 #![tactic(auto)]
 
 mod answering;
@@ -45,7 +46,7 @@ pub use laws::{
     sessions_answer_messages,
 };
 pub use plain::{PlainKeeper, serve_engine};
-pub use serving::serve;
+pub use serving::{Buffers, serve, serve_with};
 pub use told::Told;
 pub use wire_frames::{
     EncodeFault, FrameFault, Frames, Request, bad_headers_stay, encode_request,

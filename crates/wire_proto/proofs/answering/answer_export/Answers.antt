@@ -3,7 +3,7 @@ use Rattle.wire_proto.specs.Answering.{RunsOut, in_call}
 use Rattle.wire_proto.specs.Keeping.{export}
 use Rattle.mm_laws.specs.MatrixText.{matrix_text}
 use Rattle.wire_proto.specs.Replies.{text_reply}
-use Rattle.wire_proto.specs.Sessions.{OneEnds, out, asked}
+use Rattle.wire_proto.specs.Sessions.{OneEnds, out, asked, to_answer}
 use Rattle.wire_frames.specs.declared.request.Request.TheVariants.{Export}
 use Rattle.wire_proto.proofs.AskLemmas.{export_answered, text_reply_short}
 use Rattle.wire_proto.proofs.SessionLemmas.{closes_ends, sends_answered, sends_ended}
@@ -16,6 +16,7 @@ returns-in_default-clause-err g c = λ kept rest h.
     in_call _ (_, refl) c.in_default.ensures.gives refl in
     let lacks = asked _ rest h none in
     closes_ends _ _ _ _ kept _ _ _ _ _ _ _ _ c.close.ensures (lacks, c.refused.ensures) (out lacks c.refused.ensures)
+    (λ m. to_answer _ rest h (λ n. n))
 
 pub returns-in-Ok-send_sum-clause-ok : goal.returns-in-Ok-send_sum-clause-ok
 returns-in-Ok-send_sum-clause-ok g c =
@@ -41,4 +42,4 @@ returns-clause-err g c = λ kept rest h.
     g.L.Sink.failure_count g.K.Keeper.gives (g.K.Keeper.setup_of c.args.keeper.now) kept l c.close-in-Err.new.link
     c.args.keeper.now c.export.new.self c.args.written c.close-in-Err.result) c.in-Err.ensures.none
     (closes_ends _ _ _ _ kept _ _ _ _ _ _ _ _ c.close-in-Err.ensures (lacks, c.refused-in-Err.ensures)
-    (out lacks c.refused-in-Err.ensures))
+    (out lacks c.refused-in-Err.ensures) (λ m. to_answer _ rest h (λ n. n)))

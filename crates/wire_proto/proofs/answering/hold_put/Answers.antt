@@ -11,7 +11,7 @@ returns-in-Ok-clause-ok g c = λ kept rest h.
 pub returns-in-Ok-send_held-clause-err : goal.returns-in-Ok-send_held-clause-err
 returns-in-Ok-send_held-clause-err g c = λ kept rest h.
     hands_out _ _ _ _ _ _ _ g.met.K.Keeper.refused g.met.K.Keeper.earlier _ _ _ _ _ _ _ _ _ _ _ _ _ _ h
-    c.in-Err.ensures.none c.in-Ok-send_held.ensures.sends c.refused.ensures c.close.ensures
+    c.requires.put c.in-Err.ensures.none c.in-Ok-send_held.ensures.sends c.refused.ensures c.close.ensures
 
 pub returns-in-Err-send_held-clause-err : goal.returns-in-Err-send_held-clause-err
 returns-in-Err-send_held-clause-err g c = λ kept rest h.

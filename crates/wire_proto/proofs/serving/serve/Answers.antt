@@ -1,8 +1,9 @@
-use Rattle.std.proofs.Common.{◌+◌, [], refl, sym, arith, subst}
-use Rattle.wire_proto.specs.Sessions.{Ends, Stands}
-use Rattle.wire_frames.proofs.FrontLemmas.{front_short}
-use Rattle.wire_proto.proofs.SessionLemmas.{out_of_memory, stops_ends, stands_first, stands_rests}
+use Rattle.std.proofs.Common.{arith}
+use Rattle.wire_proto.proofs.SessionLemmas.{never_begun, stops_ends}
 use Rattle.wire_proto.proofs.serving.serve.Goals as goal
+
+pub returns-in-Ok-clause-ends : goal.returns-in-Ok-clause-ends
+returns-in-Ok-clause-ends g c = let e = c.serve_with.ensures.ends in (e.0, e.1, e.3)
 
 pub returns-in-Err-clause-ends : goal.returns-in-Err-clause-ends
 returns-in-Err-clause-ends g c = (
@@ -11,39 +12,7 @@ returns-in-Err-clause-ends g c = (
   stops_ends {L = g.row.L.Denot} {S = g.row.K.Denot} g.L.Source.read_gives g.L.Sink.write_takes g.L.Sink.failure_count
       g.K.Keeper.gives (g.K.Keeper.setup_of c.args.keeper.now) g.L.Source.at_end
       c.args.link.now c.refuse.new.link c.args.keeper.now c.args.keeper.now c.args.max_turns 0 c.refuse.result
-      (out_of_memory {L = g.row.L.Denot} {S = g.row.K.Denot} g.L.Source.read_gives g.L.Sink.write_takes
-      g.L.Sink.failure_count g.K.Keeper.gives (g.K.Keeper.setup_of c.args.keeper.now) [] c.args.link.now
-      c.refuse.new.link c.args.keeper.now 0 c.refuse.result
-      c.refuse.ensures c.args.link.now c.args.keeper.now 0 (stands_first _ _ _ _ _ _ _)),
+      (never_begun {L = g.row.L.Denot} {S = g.row.K.Denot} g.L.Source.read_gives g.L.Sink.write_takes
+      g.L.Sink.failure_count g.K.Keeper.gives (g.K.Keeper.setup_of c.args.keeper.now) c.args.link.now
+      c.refuse.new.link c.args.keeper.now c.refuse.result c.refuse.ensures),
 )
-
-pub loop-turn-init : goal.loop-turn-init
-loop-turn-init g c = record {
-  fact = c.requires.fact;
-  setup = refl;
-  empty = c.in-Ok.ensures;
-  failures = refl;
-  none = rw c.new-frames.ensures (front_short [] (omega arith));
-  room = rw c.new-frames.ensures (omega arith);
-  stands = rw c.new-frames.ensures (stands_first _ _ _ _ _ _ _);
-}
-
-pub returns-in-Err-take_turn-clause-ends : goal.returns-in-Err-take_turn-clause-ends
-returns-in-Err-take_turn-clause-ends g c = (
-  c.loop-turn.turn + 1,
-  omega arith,
-  subst (λ v. Ends {L = g.row.L.Denot} {S = g.row.K.Denot} g.L.Source.read_gives g.L.Sink.write_takes
-      g.L.Sink.failure_count g.K.Keeper.gives v g.L.Source.at_end c.args.link.now c.take_turn.new.link c.args.keeper.now
-      c.take_turn.new.keeper c.args.max_turns (c.loop-turn.turn + 1) c.in-Err-take_turn.ended)
-      c.loop-turn.invariant.setup
-      (c.in-Err-take_turn.ensures.err c.args.link.now c.args.keeper.now c.loop-turn.turn c.args.max_turns
-      (subst (λ v. Stands {L = g.row.L.Denot} {S = g.row.K.Denot} g.L.Source.read_gives g.L.Sink.write_takes
-      g.L.Sink.failure_count g.K.Keeper.gives v c.args.link.now c.loop-turn.link c.args.keeper.now
-      c.loop-turn.keeper c.loop-turn.frames c.loop-turn.written c.loop-turn.turn)
-      (sym c.loop-turn.invariant.setup) c.loop-turn.invariant.stands)),
-)
-
-pub returns-clause-ends : goal.returns-clause-ends
-returns-clause-ends g c =
-    let r = stands_rests _ _ _ _ _ _ _ _ _ _ _ _ c.loop-turn.invariant.none c.loop-turn.invariant.stands in
-    (c.loop-turn.turn, omega arith, (c.loop-turn.frames, omega arith, r.0, let n = r.1 in omega arith))

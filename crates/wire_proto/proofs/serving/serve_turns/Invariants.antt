@@ -1,7 +1,7 @@
 use Rattle.std.proofs.Common.{◌≡◌, ◌+◌, ◌*◌, ◌≤◌, [], length, None}
 use Rattle.wire_frames.specs.Frames.{front}
 use Rattle.wire_proto.specs.Sessions.{Stands}
-use Rattle.wire_proto.proofs.serving.serve.Given as goal
+use Rattle.wire_proto.proofs.serving.serve_turns.Given as goal
 
 abbrev pub invariant-loop-turn : goal.invariant-loop-turn
 invariant-loop-turn g l = record {
