@@ -154,10 +154,9 @@ SCENARIOS = {
             [["shard sum refused", "shard 0 batches 1 total 5"]],
             ["shard settled, base total 5", "shard 0 batches 0 total 5"],
         ),
-        Step([["book seal refused", "book of batches 1 total 9"]], []),
         Step(
-            [["book sum refused", "book of batches 1 total 9"]],
-            ["book settled, folded 1 base total 9", "book of batches 1 total 9"],
+            [["book seal refused", "book of batches 1 total 9"]],
+            ["book sealed, batches 1", "book of batches 1 total 9"],
         ),
     ],
     "compacting": [

@@ -19,3 +19,4 @@ pub mod WalkLaws
 pub mod MergedLaws
 pub mod PieceSums
 pub mod SameMatrices
+pub mod SealedLaws

@@ -16,7 +16,7 @@ ghost use Rattle.hyper_matrix.specs.Matrix.{matrix};
 ghost use Rattle.batch_store.specs.Accepted.{accepted, unfolded, entries_in, count_in, total_in, with_batch};
 ghost use Rattle.batch_store.specs.Accepted.{folded_into, batch_at, summed};
 ghost use Rattle.batch_store.specs.Batches.{entry_of, batch_total, values};
-ghost use Rattle.batch_store.specs.BookFolds.{folded_to, due_list};
+ghost use Rattle.batch_store.specs.BookFolds.{IsDueIn, folded_to, due_list};
 ghost use Rattle.batch_store.specs.Verdicts.{verdict_on_new, kept};
 ghost use Rattle.batch_store.specs.Books.{AreAccepted, line_entry, line_entries, verdict_on, listed_in};
 
@@ -375,25 +375,27 @@ impl Book {
 }
 
 impl Book {
-    /// Seals the batches that aren't folded: all of them are to be folded next, by `settle_fold`, and whoever has the
-    /// answer makes the base with them without the book. None where some are sealed already, or there are none, or more
-    /// than `most`. What was accepted stays, also on an error, but the free places may be fewer. Constant time: one
-    /// growth, of what is shared, and no batch is listed.
+    /// Seals the batches that aren't folded: all of them are to be folded next, by `settle_fold`, and whoever asks for
+    /// what is sealed makes the base with them without the book. False where some are sealed already, or there are
+    /// none, or more than `most`. What was accepted stays, also on an error, but the free places may be fewer. Constant
+    /// time: one growth, of what is shared, and no batch is listed.
     ///
     /// # Errors
     ///
     /// A growth was refused.
-    pub fn begin_fold(
-        &mut self,
-        alloc: Global,
-        most: u64,
-    ) -> Result<Option<Arc<BookFold>>, AllocError>
+    pub fn begin_fold(&mut self, alloc: Global, most: u64) -> Result<bool, AllocError>
         ensures setup { self.new.setup ≡ self.old.setup }
         ensures state { self.new.state ≡ self.old.state }
     {
         let base = Arc::try_clone(self.past.base())?;
-        self.rest
-            .seal(alloc, most, self.setup.rows(), self.setup.cols(), base)
+        self.rest.seal(alloc, most, base)
+    }
+
+    /// What is sealed, shared; None where nothing is, or there are too many copies of its pointer. Constant time.
+    pub fn sealed(&self) -> Option<Arc<BookFold>>
+        ensures { IfSome result (λ d. IsDueIn self.now.setup self.now.state (arc_value d)) }
+    {
+        self.rest.due()
     }
 
     /// Folds the batches that were sealed, where their base was made: it is put in place of the old one. What the book

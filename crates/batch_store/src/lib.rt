@@ -9,12 +9,12 @@
 //! `Book::admit`, `Shard::prepare` before `Shard::commit`. The second can't fail and takes no memory, so a caller makes
 //! all that can be refused first, and then accepts the batch everywhere or nowhere.
 //!
-//! A book and a shard are folded beside what they take in: `begin_fold` seals what there is and gives away what the new
-//! base is made of, `run` makes it without the book or the shard, and `settle_fold` puts it in place, which can't be
+//! A book and a shard are folded beside what they take in: `begin_fold` seals what there is, `sealed` shares it with
+//! whoever makes the new bases without the book or the shard, and `settle_fold` puts them in place, which can't be
 //! refused. Whoever folds an engine seals the book and all shards at one moment.
 //!
-//! A book's base is cut into pieces, one for each shard (`Pieces`). A piece and the base of its shard share their cells, so
-//! a folded cell is in memory once.
+//! A book's base is cut into pieces, one for each shard (`Pieces`), which are the shards' bases: a folded cell is in
+//! memory once.
 #![tactic(auto)]
 
 mod batch;
@@ -40,6 +40,7 @@ mod part;
 mod piece_cells;
 mod pieces;
 mod same;
+mod sealed_shard;
 mod setup;
 mod shard;
 mod unfolded;
@@ -53,7 +54,6 @@ pub use book::{Book, ReleasedBatches};
 pub use book_fold::BookFold;
 pub use book_list::BookList;
 pub use fault::{BatchFault, CellsFault, GrowthFault, SetupFault, ShardFault};
-pub use fold_place::{ShardBase, ShardFold};
 pub use given_numbers::{GivenNumbers, with_dims};
 pub use growth_laws::{
     a_growth_has_one_outcome, grown_lists_keep_all, larger_setups_answer_the_same,
@@ -70,6 +70,7 @@ pub use misfit::{Misfit, Number};
 pub use piece_cells::PieceCells;
 pub use pieces::Pieces;
 pub use same::same_matrix;
+pub use sealed_shard::{MadeBase, SealedShard};
 pub use setup::Setup;
 pub use shard::{Prepared, ReleasedRecord, Shard};
 pub use verdict::{Entry, Kept, Verdict};

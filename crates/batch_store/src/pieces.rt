@@ -4,15 +4,13 @@ ghost use Rattle.std.specs.Arc.{arc_value};
 ghost use Rattle.std.specs.FinMap.{entries, len};
 ghost use Rattle.cells.specs.Bounds.{IsDimension};
 ghost use Rattle.hyper_matrix.specs.Cells.{entry_of};
-ghost use Rattle.hyper_matrix.specs.Counts.{ewise_add, total};
+ghost use Rattle.hyper_matrix.specs.Counts.{total};
 ghost use Rattle.hyper_matrix.specs.Parts.{shard_part};
 ghost use Rattle.layer_compaction.specs.Shared.{all_counts, content, values};
 ghost use Rattle.merged_cells.specs.Within.{LieWithin};
 ghost use Rattle.batch_store.specs.Pieces.{AllLie, ArePieces, all_entries, cut_in, whole_of};
 
-use crate::fold_place::ShardBase;
 use crate::piece_cells::PieceCells;
-use crate::same::same_matrix;
 use cells::Cell;
 use hyper_matrix::Hyper;
 use std::alloc::{AllocError, Global};
@@ -74,40 +72,16 @@ fn amounts(list: &[Arc<Hyper>]) -> Option<(u64, u64)>
     Some((entries, total))
 }
 
-// The sum of two matrices.
-fn sum_of(alloc: Global, a: &Hyper, b: &Hyper) -> Result<Hyper, AllocError>
-    requires rows { a.now.rows ≡ b.now.rows }
-    requires cols { a.now.cols ≡ b.now.cols }
-    ensures { IfOk result (λ sum. sum ≡ record a.now { counts = ewise_add a.now.counts b.now.counts }) }
-{
-    if a.total().checked_add(b.total()).is_none() {
-        return Err(AllocError);
-    }
-    a.ewise_add(alloc, b)
-}
-
-// Shares a piece: where what was made for this shard has the same cells it is that.
-fn shared_as(
-    alloc: Global,
-    own: Hyper,
-    s: u64,
-    made: &[ShardBase],
-) -> Result<Arc<Hyper>, AllocError>
-    ensures { IfOk result (λ shared. arc_value shared ≡ own) }
-{
-    'made: for other in made {
-        if other.number == s && same_matrix(&own, &other.base) {
-            let shared = Arc::try_clone(&other.base)?;
-            return Ok(shared);
-        }
-    }
-    let shared = Arc::new(alloc, own)?;
-    Ok(shared)
-}
-
 impl Pieces {
-    // These matrices as pieces.
-    fn of(rows: u64, cols: u64, list: Vec<Arc<Hyper>>) -> Result<Pieces, AllocError>
+    /// These matrices as pieces of what they add up to, each shared with whoever else has it. No memory, and a look at
+    /// each.
+    ///
+    /// The caller sees to it that they are: that the matrix of shard s is the part of the whole there.
+    ///
+    /// # Errors
+    ///
+    /// The whole has more entries, or a larger total, than 2^64 - 1.
+    pub fn new(rows: u64, cols: u64, list: Vec<Arc<Hyper>>) -> Result<Pieces, AllocError>
         requires dims { IsDimension rows × IsDimension cols }
         requires some { 0 < length list.items }
         requires few { length list.items ≤ 64 }
@@ -140,7 +114,7 @@ impl Pieces {
         let (rows, cols) = whole.dims();
         let parts = whole.parts(alloc, count)?;
         let list = shared(alloc, parts)?;
-        let pieces = Pieces::of(rows, cols, list)?;
+        let pieces = Pieces::new(rows, cols, list)?;
         Ok(pieces)
     }
 
@@ -155,36 +129,6 @@ impl Pieces {
         let cut = Pieces::cut(alloc, whole, 1)?;
         let shared = Arc::new(alloc, cut)?;
         Ok(shared)
-    }
-
-    /// The sum of this and another matrix, in as many pieces. A piece that has the same cells as what was made for its shard
-    /// is shared with that. It takes the time of a pass over both, and memory for a list of the other's cells and for the
-    /// pieces, where it shares one as long as that is compared.
-    ///
-    /// # Errors
-    ///
-    /// A growth was refused, or the sum passes 2^64 - 1.
-    pub fn with_added(
-        &self,
-        alloc: Global,
-        added: &Hyper,
-        made: &[ShardBase],
-    ) -> Result<Pieces, AllocError>
-        requires rows { added.now.rows ≡ self.now.whole.rows }
-        requires cols { added.now.cols ≡ self.now.whole.cols }
-        ensures { IfOk result (λ p. p ≡ cut_in self.now.count
-            (record added.now { counts = ewise_add self.now.whole.counts added.now.counts })) }
-    {
-        let (rows, cols) = added.dims();
-        let k = self.count();
-        let parts = added.parts(alloc, k)?;
-        let mut list = Vec::with_capacity(alloc, k as usize)?;
-        'pieces: for s in 0..k {
-            let sum = sum_of(alloc, self.piece(s), &parts[s as usize])?;
-            list.push(shared_as(alloc, sum, s, made)?)?;
-        }
-        let pieces = Pieces::of(rows, cols, list)?;
-        Ok(pieces)
     }
 
     /// The same matrix in so many pieces: the same ones, shared, where there are as many, else cut anew.

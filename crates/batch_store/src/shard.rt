@@ -5,26 +5,27 @@
 //! can't fail. The record is a map from client and number to the batch, in the order of acceptance, hashed with a seed
 //! drawn for each shard, since clients choose the keys.
 ghost use Rattle.std.specs.Prelude.{◌≡◌, ℕ, ◌+◌, ◌<◌, ◌≤◌, ◌++◌, ◌^◌, [], ◌∷◌, ◌↔◌, IfOk, IfErr, IfSome, IsTrue, None, Ok, false};
-ghost use Rattle.std.specs.Prelude.{option_map, replicate, length, slice_get, is_some, true};
+ghost use Rattle.std.specs.Prelude.{option_map, replicate, length, slice_get, true};
 ghost use Rattle.std.specs.Arc.{arc_value};
 ghost use Rattle.std.specs.FinMap.{empty, get as get_count, len};
 ghost use Rattle.hyper_matrix.specs.Counts.{total as total_of, part};
 ghost use Rattle.hyper_matrix.specs.Matrix.{matrix};
 ghost use Rattle.hyper_matrix.specs.RowOf.{row_of};
 ghost use Rattle.layer_compaction.specs.Shared.{content};
-ghost use Rattle.layer_compaction.specs.Due.{numbers_of};
 ghost use Rattle.layer_cascade.specs.Cascade.{cascade};
 ghost use Rattle.layer_cascade.specs.Layering.{entries_of_layer, no_layers};
 ghost use Rattle.batch_store.specs.Parts.{part_of};
 ghost use Rattle.batch_store.specs.Shards.{AreHeld, stands, Refuses, IsReady, shard_total, part_in, amount_in};
-ghost use Rattle.batch_store.specs.ShardFolds.{StaysAll, Seals, HandsDown, FoldsFront};
+ghost use Rattle.batch_store.specs.ShardFolds.{StaysAll, Seals, HandsDown, FoldsFront, IsFrontOf};
 ghost use Rattle.batch_store.specs.Shards.{layering_of, layering_with, HasDims, matrix_in, Stays, KeepsShard};
 
 use crate::batch::Batch;
 use crate::fault::ShardFault;
-use crate::fold_place::{MadeBase, MadePlace, ShardFold};
 use crate::pair::Pair;
 use crate::part::part_total;
+use crate::sealed_shard::{
+    MadeBase, Record, Sealed, SealedShard, record_at, sealed_at, sealed_has, sealed_len,
+};
 use crate::setup::Setup;
 use crate::view::ShardView;
 use hyper_matrix::{Hyper, RowSum};
@@ -52,11 +53,9 @@ pub struct Shard {
     layers: Layers,
     // It shares the cells of what lies below the layers, but between a seal and its settling.
     base: Arc<Hyper>,
-    // The front of the record that is to go into the base, while that is made. Empty where nothing is sealed.
-    sealed: SegmentedMap<Pair, Arc<Batch>, RandomState>,
-    held: SegmentedMap<Pair, Arc<Batch>, RandomState>,
-    // Where the base with the sealed batches' parts will be found.
-    due: Option<Arc<MadePlace>>,
+    // The front of the record that is to go into the base, while that is made.
+    sealed: Option<Sealed>,
+    held: Record,
     hasher: RandomState,
 }
 
@@ -65,7 +64,7 @@ pub struct Shard {
 pub struct ReleasedRecord {
     base: Arc<Hyper>,
     below: Arc<Layer>,
-    sealed: SegmentedMap<Pair, Arc<Batch>, RandomState>,
+    sealed: Sealed,
 }
 
 // The most batches of a record.
@@ -76,17 +75,17 @@ impl Model for Shard {
     ghost use Rattle.indexmap.specs.IndexMap.{spare};
     ghost use Rattle.std.specs.Prelude.{◌++◌};
     ghost use Rattle.batch_store.specs.Shards.{Holding, holding, coded_holding, recorded, KeepsShard};
-    ghost use Rattle.batch_store.specs.ShardFolds.{IsSealed};
+    ghost use Rattle.batch_store.specs.ShardFolds.{IsSealed, sealed_in};
 
     ghost Value = { Holding };
 
     ghost coded = { coded_holding };
 
     ghost view = { λ a. holding a.setup a.number a.layers.layers a.layers.below (arc_value a.base).counts
-        (recorded (a.sealed.entries ++ a.held.entries)) (spare a.held) };
+        (recorded (sealed_in a.sealed ++ a.held.entries)) (spare a.held) };
 
-    ghost invariant = { λ a. KeepsShard a.setup a.number a.layers (arc_value a.base) (a.sealed.entries ++ a.held.entries)
-        × IsSealed a.setup a.number a.layers.below (arc_value a.base) (recorded a.sealed.entries) a.due };
+    ghost invariant = { λ a. KeepsShard a.setup a.number a.layers (arc_value a.base) (sealed_in a.sealed ++ a.held.entries)
+        × IsSealed a.setup a.number a.layers.below (arc_value a.base) a.sealed };
 }
 
 /// A batch with the layers that hold its part, ready to be committed to the shard that it was prepared for.
@@ -215,9 +214,8 @@ impl Shard {
                 number: s,
                 layers,
                 base,
-                sealed: SegmentedMap::with_hasher(alloc, hasher),
+                sealed: None,
                 held: SegmentedMap::with_hasher(alloc, hasher),
-                due: None,
                 hasher,
             }),
             Err(_) => Err(AllocError),
@@ -251,7 +249,7 @@ impl Shard {
     pub fn record_len(&self) -> u64
         ensures { result ≡ length self.now.record_list }
     {
-        self.sealed.len() as u64 + self.held.len() as u64
+        sealed_len(&self.sealed) + self.held.len() as u64
     }
 
     /// The count at a place of the sum of all parts, and None where that has no entry, as outside the dimensions and in
@@ -284,20 +282,18 @@ impl Shard {
         ensures { result ≡ stands client number self.now.record_list }
     {
         let pair = Pair { client, number };
-        self.sealed.contains_key(&pair) || self.held.contains_key(&pair)
+        sealed_has(&self.sealed, &pair) || self.held.contains_key(&pair)
     }
 
     /// The batch at a place of the record, counted from 0, and None past the last. Constant time.
     pub fn at(&self, i: u64) -> Option<&Arc<Batch>>
         ensures { option_map (λ a. arc_value a.now) result ≡ slice_get self.now.record_list i }
     {
-        let sealed = self.sealed.len() as u64;
+        let sealed = sealed_len(&self.sealed);
         if i < sealed {
-            let (_, batch) = self.sealed.get_index(i as usize)?;
-            return Some(batch);
+            return sealed_at(&self.sealed, i as usize);
         }
-        let (_, batch) = self.held.get_index((i - sealed) as usize)?;
-        Some(batch)
+        record_at(&self.held, (i - sealed) as usize)
     }
 
     /// Makes all that taking in a batch needs: its part, the layers with it, and a free place in the record. What the
@@ -456,9 +452,8 @@ impl Shard {
         ensures record { self.new.record_list ≡ [] }
     {
         self.base = base;
-        self.sealed.clear();
+        self.sealed = None;
         self.held.clear();
-        self.due = None;
     }
 
     /// Chooses parts that stand side by side in one of the layers from the place `from` on and before `until`, which count
@@ -521,80 +516,91 @@ impl Shard {
             (cascade self.now.layers self.now.setup.cuts (part_in self.now p.now.batch)) self.now.base
             (self.now.record_list ++ p.now.batch ∷ []) }
     {
-        let record_len = self.sealed.len() as u64 + self.held.len() as u64 + 1;
+        let record_len = sealed_len(&self.sealed) + self.held.len() as u64 + 1;
         let layers = p.plan.view(alloc)?;
         Ok(ShardView::new(layers, record_len))
     }
 }
 
 impl Shard {
-    /// Seals the record: all batches that are in it now are to go into the base, which whoever has the answer makes
-    /// without the shard. The layers are handed down, so that what they hold is what it is made of. None where batches
-    /// are sealed already, or there are none. What the shard holds stays, also on an error, but for the free places.
-    /// Only pointers are moved: those of the layers' matrices and a place are the growths.
+    /// Seals the record: all batches that are in it now are to go into the base, which whoever asks for what is sealed
+    /// makes without the shard. The layers are handed down, so that what they hold is what it is made of. An empty
+    /// record is sealed too: its base stays. False where a record is sealed already. What the shard holds stays, also
+    /// on an error, but for the free places. Only pointers are moved: those of the layers' matrices and what is shared
+    /// are the growths.
     ///
     /// # Errors
     ///
     /// A growth was refused. Layers may have been handed down.
-    pub fn begin_fold(&mut self, alloc: Global) -> Result<Option<ShardFold>, AllocError>
+    pub fn begin_fold(&mut self, alloc: Global) -> Result<bool, AllocError>
         ensures stays { Seals self.old self.new }
-        ensures handed { IfOk result (λ sealed. IfSome sealed (λ _. HandsDown self.old self.new)) }
-        ensures none { result ≡ Ok None → self.new ≡ self.old }
+        ensures handed { result ≡ Ok true → HandsDown self.old self.new }
+        ensures none { result ≡ Ok false → self.new ≡ self.old }
     {
-        if self.sealed.len() > 0 || self.held.is_empty() {
-            return Ok(None);
+        if self.sealed.is_some() {
+            return Ok(false);
         }
-        // Nothing is sealed, so nothing is due.
-        self.due = None;
         let below = self.layers.hand_down(alloc)?;
-        let (place, fold) = ShardFold::begin(alloc, self.number, below)?;
-        mem::swap(&mut self.sealed, &mut self.held);
-        self.due = Some(place);
-        Ok(Some(fold))
+        let none = SegmentedMap::with_hasher(alloc, self.hasher);
+        let held = mem::replace(&mut self.held, none);
+        match Arc::new(alloc, held) {
+            Ok(batches) => {
+                self.sealed = Some(Sealed { below, batches });
+                Ok(true)
+            }
+            Err(failed) => {
+                self.held = failed.value;
+                Err(AllocError)
+            }
+        }
     }
 
-    /// Takes a seal back, where no batch came since. What the shard holds stays, but for the free places; what was handed
-    /// down stays below the layers. It takes no memory.
+    /// What is sealed, shared; None where nothing is, or a pointer can't be copied. Constant time.
+    pub fn sealed(&self) -> Option<SealedShard>
+        ensures { IfSome result (λ z. (m : ℕ) × IsFrontOf m self.now z) }
+    {
+        match &self.sealed {
+            Some(sealed) => SealedShard::of(self.number, self.setup.shards(), &self.base, sealed),
+            None => None,
+        }
+    }
+
+    /// Takes a seal back, where no batch came since and nobody else has what is sealed. What the shard holds stays, but
+    /// for the free places; what was handed down stays below the layers. It takes no memory.
     pub fn unseal(&mut self)
         ensures { StaysAll self.old self.new }
     {
         if self.held.len() > 0 {
             return;
         }
-        mem::swap(&mut self.sealed, &mut self.held);
-        self.due = None;
+        if let Some(Sealed { below, batches }) = self.sealed.take() {
+            match Arc::try_unwrap(batches) {
+                Ok(batches) => self.held = batches,
+                Err(batches) => self.sealed = Some(Sealed { below, batches }),
+            }
+        }
     }
 
     /// Puts the base that was made in place of the old one, of the sealed front of the record, and of what was handed
-    /// down, and gives what the shard lets go of; None where it isn't made yet, or nothing is sealed. The layers stay. It
-    /// takes no memory, and moves pointers alone.
-    pub fn settle_fold(&mut self, alloc: Global) -> Option<ReleasedRecord>
+    /// down, and gives what the shard lets go of; None where nothing is sealed. The layers stay. It takes no memory,
+    /// and moves pointers alone.
+    ///
+    /// The caller has made the base of what was handed down.
+    pub fn settle_fold(&mut self, made: MadeBase) -> Option<ReleasedRecord>
+        requires base { arc_value made.base ≡ matrix self.old.setup.rows self.old.setup.cols self.old.below }
+        requires below { arc_value made.below ≡ matrix self.old.setup.rows self.old.setup.cols self.old.below }
         ensures kept { result ≡ None → self.new ≡ self.old }
         ensures folded { IfSome result (λ u. (m : ℕ) × FoldsFront m self.old self.new) }
+        ensures base { IfSome result (λ u. self.new.base ≡ self.old.below) }
     {
-        let MadeBase { base, below } = made_base(&self.due)?;
-        let none = SegmentedMap::with_hasher(alloc, self.hasher);
-        self.due = None;
+        let sealed = self.sealed.take()?;
+        let MadeBase { base, below } = made;
         let below = self.layers.replace_below(below);
         let base = mem::replace(&mut self.base, base);
-        let sealed = mem::replace(&mut self.sealed, none);
         Some(ReleasedRecord {
             base,
             below,
             sealed,
         })
-    }
-}
-
-// The base that is due, if it was made.
-fn made_base(due: &Option<Arc<MadePlace>>) -> Option<MadeBase>
-    ensures base { IfSome result (λ made. IfSome due.now (λ place. numbers_of (arc_value made.base) ≡ arc_value place)) }
-    ensures below { IfSome result (λ made.
-        IfSome due.now (λ place. numbers_of (arc_value made.below) ≡ arc_value place)) }
-    ensures some { IfSome result (λ made. is_some due.now ≡ true) }
-{
-    match due {
-        Some(place) => place.made(),
-        None => None,
     }
 }

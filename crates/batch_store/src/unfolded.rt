@@ -4,14 +4,12 @@ ghost use Rattle.std.specs.Prelude.{slice_get, take, drop, vec_len, vec_capacity
 ghost use Rattle.std.specs.Bool.{OnTrue};
 ghost use Rattle.std.specs.Option.{option_map};
 ghost use Rattle.std.specs.Arc.{arc_value};
-ghost use Rattle.cells.specs.Bounds.{IsDimension};
 ghost use Rattle.layer_compaction.specs.Due.{numbers_of};
 ghost use Rattle.batch_store.specs.Batches.{values};
-ghost use Rattle.batch_store.specs.Books.{HaveDims};
 ghost use Rattle.batch_store.specs.BookFolds.{DueFold, IsBookDue, rest_list, due_list};
 
 use crate::batch::Batch;
-use crate::book_fold::{BookFold, Front};
+use crate::book_fold::BookFold;
 use crate::pieces::Pieces;
 use std::alloc::{AllocError, Global};
 use std::marker::Model;
@@ -138,63 +136,42 @@ impl Unfolded {
         true
     }
 
-    /// Makes all of them the batches of a fold that is due, beside this base, which whoever has the answer makes with
-    /// them. None where a fold is due already, or there are no batches, or more than so many. The batches stay, also on
-    /// an error. Constant time: one growth, of what is shared.
+    /// Makes all of them the batches of a fold that is due, beside this base, which whoever asks for the fold makes
+    /// with them. False where a fold is due already, or there are no batches, or more than so many. The batches stay,
+    /// also on an error. Constant time: one growth, of what is shared.
     ///
     /// # Errors
     ///
     /// The growth was refused.
-    pub fn seal(
-        &mut self,
-        alloc: Global,
-        most: u64,
-        rows: u64,
-        cols: u64,
-        base: Arc<Pieces>,
-    ) -> Result<Option<Arc<BookFold>>, AllocError>
-        requires dims { IsDimension rows × IsDimension cols }
-        requires rows { (arc_value base).whole.rows ≡ rows }
-        requires cols { (arc_value base).whole.cols ≡ cols }
-        requires all { HaveDims rows cols (rest_list self.old) }
+    pub fn seal(&mut self, alloc: Global, most: u64, base: Arc<Pieces>) -> Result<bool, AllocError>
         requires due { IsBookDue (arc_value base).whole self.old.due }
         ensures same { rest_list self.new ≡ rest_list self.old }
         ensures due { IsBookDue (arc_value base).whole self.new.due }
     {
         if self.sealed.is_some() || self.held.is_empty() || self.held.len() as u64 > most {
-            return Ok(None);
+            return Ok(false);
         }
         let held = mem::replace(&mut self.held, Vec::new(alloc));
-        let fold = BookFold::begin(Front::new(rows, cols, base, held));
-        let sealed = match Arc::new(alloc, fold) {
-            Ok(sealed) => sealed,
+        let fold = BookFold::begin(base, held);
+        match Arc::new(alloc, fold) {
+            Ok(sealed) => {
+                self.sealed = Some(sealed);
+                Ok(true)
+            }
             Err(failed) => {
                 self.held = failed.value.into_batches();
-                return Err(AllocError);
-            }
-        };
-        match Arc::try_clone(&sealed) {
-            Ok(fold) => {
-                self.sealed = Some(sealed);
-                Ok(Some(fold))
-            }
-            Err(_) => {
-                self.take_back(sealed);
                 Err(AllocError)
             }
         }
     }
 
-    // Takes the batches of a fold back that nobody else has.
-    fn take_back(&mut self, fold: Arc<BookFold>)
-        requires none { self.old.due ≡ None }
-        requires empty { self.old.behind ≡ [] }
-        ensures same { rest_list self.new ≡ (arc_value fold).list }
-        ensures due { IfSome self.new.due (λ d. d ≡ arc_value fold) }
+    /// The fold that is due, shared; None where none is, or there are too many copies of its pointer. Constant time.
+    pub fn due(&self) -> Option<Arc<BookFold>>
+        ensures { IfSome result (λ d. self.now.due ≡ Some (arc_value d)) }
     {
-        match Arc::try_unwrap(fold) {
-            Ok(fold) => self.held = fold.into_batches(),
-            Err(fold) => self.sealed = Some(fold),
+        match &self.sealed {
+            Some(fold) => Arc::try_clone(fold).ok(),
+            None => None,
         }
     }
 

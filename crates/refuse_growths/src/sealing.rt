@@ -1,16 +1,16 @@
-//! A book and a shard that are folded apart from what they take in: what `begin_fold`, `run` and `settle_fold` leave.
+//! A shard that is folded apart from what it takes in, and a book that is sealed: what `begin_fold`, `make` and
+//! `settle_fold` leave.
 ghost use Rattle.std.specs.Prelude.{◌≡◌};
 
 use crate::book::{admit, show_book, take_in};
 use crate::examples::{batch, small_setup};
 use crate::show::{say, show_shard, tell};
 use crate::stop::Stop;
-use batch_store::{Book, BookFold, Setup, Shard, ShardFold};
+use batch_store::{Book, Setup, Shard};
 use std::alloc::{AllocError, Global};
 use std::random::RandomSource;
-use std::sync::Arc;
 
-/// Has a shard take a batch in, and a book admit it, and folds both.
+/// Has a shard take a batch in, and a book admit it, folds the shard and seals the book.
 pub fn run(rt: &(impl RandomSource + Print), alloc: Global) -> Result<(), Stop> {
     let setup = small_setup()?;
     let mut shard = Shard::new(rt, alloc, &setup, 0)?;
@@ -43,7 +43,7 @@ fn run_example(
     }
     admit(rt, book, b)?;
     fold_shard(rt, alloc, shard)?;
-    fold_book(rt, alloc, book)
+    seal_book(rt, alloc, book)
 }
 
 // Seals a shard's record, again where memory was refused.
@@ -51,9 +51,9 @@ fn shard_sealed_at_last(
     rt: &impl Print,
     alloc: Global,
     shard: &mut Shard,
-) -> Result<Option<ShardFold>, AllocError> {
+) -> Result<bool, AllocError> {
     match shard.begin_fold(alloc) {
-        Ok(fold) => Ok(fold),
+        Ok(sealed) => Ok(sealed),
         Err(_) => {
             say(rt, "shard seal refused");
             show_shard(rt, shard);
@@ -62,18 +62,31 @@ fn shard_sealed_at_last(
     }
 }
 
-fn fold_shard(rt: &impl Print, alloc: Global, shard: &mut Shard) -> Result<(), Stop> {
-    let Some(fold) = shard_sealed_at_last(rt, alloc, shard)? else {
+// Makes a shard's new base of what is sealed, again where memory was refused, and puts it in place.
+fn settle_at_last(rt: &impl Print, alloc: Global, shard: &mut Shard) -> Result<(), Stop> {
+    let Some(sealed) = shard.sealed() else {
         return Err(Stop::Fault);
     };
-    if fold.run(alloc).is_err() {
-        say(rt, "shard sum refused");
-        show_shard(rt, shard);
-        drop(fold.run(alloc)?);
-    }
-    if shard.settle_fold(alloc).is_none() {
+    let made = match sealed.make(alloc) {
+        Ok(made) => made,
+        Err(_) => {
+            say(rt, "shard sum refused");
+            show_shard(rt, shard);
+            sealed.make(alloc)?
+        }
+    };
+    drop(sealed);
+    if shard.settle_fold(made).is_none() {
         return Err(Stop::Fault);
     }
+    Ok(())
+}
+
+fn fold_shard(rt: &impl Print, alloc: Global, shard: &mut Shard) -> Result<(), Stop> {
+    if !shard_sealed_at_last(rt, alloc, shard)? {
+        return Err(Stop::Fault);
+    }
+    settle_at_last(rt, alloc, shard)?;
     tell(rt, &[("shard settled, base total", shard.base().total())]);
     show_shard(rt, shard);
     Ok(())
@@ -84,9 +97,9 @@ fn book_sealed_at_last(
     rt: &impl Print,
     alloc: Global,
     book: &mut Book,
-) -> Result<Option<Arc<BookFold>>, AllocError> {
+) -> Result<bool, AllocError> {
     match book.begin_fold(alloc, u64::MAX) {
-        Ok(fold) => Ok(fold),
+        Ok(sealed) => Ok(sealed),
         Err(_) => {
             say(rt, "book seal refused");
             show_book(rt, book);
@@ -95,23 +108,15 @@ fn book_sealed_at_last(
     }
 }
 
-fn fold_book(rt: &impl Print, alloc: Global, book: &mut Book) -> Result<(), Stop> {
-    let Some(fold) = book_sealed_at_last(rt, alloc, book)? else {
+fn seal_book(rt: &impl Print, alloc: Global, book: &mut Book) -> Result<(), Stop> {
+    if !book_sealed_at_last(rt, alloc, book)? {
+        return Err(Stop::Fault);
+    }
+    let Some(fold) = book.sealed() else {
         return Err(Stop::Fault);
     };
-    if fold.run(alloc, &[]).is_err() {
-        say(rt, "book sum refused");
-        show_book(rt, book);
-        fold.run(alloc, &[])?;
-    }
-    if book.settle_fold().is_none() {
-        return Err(Stop::Fault);
-    }
-    let (folded, total) = (book.folded(), book.base().total());
-    tell(
-        rt,
-        &[("book settled, folded", folded), ("base total", total)],
-    );
+    tell(rt, &[("book sealed, batches", fold.len() as u64)]);
+    drop(fold);
     show_book(rt, book);
     Ok(())
 }

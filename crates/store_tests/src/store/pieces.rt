@@ -1,13 +1,12 @@
-//! Matrices in pieces: their cells in order, one after the other, and sums of theirs.
+//! Matrices in pieces: their cells in order, one after the other.
 ghost use Rattle.std.specs.Prelude.{◌≡◌};
 
-use batch_store::{Pieces, ShardBase};
+use batch_store::Pieces;
 use cells::Cell;
 use hyper_matrix::Hyper;
 use std::alloc::Global;
 use std::io::Eprint;
 use std::process::Abort;
-use std::sync::Arc;
 use test_batches::{Cells, cells_of};
 use test_support::same_at;
 
@@ -56,47 +55,4 @@ fn cells_of_pieces_come_by_row(rt: HostRuntime) {
             assert!(rt; has_cells(&rt, rt.alloc(), &pieces, cells));
         }
     }
-}
-
-// What rows 0 and 3 of the sum have, and of row 1 alone.
-static FIRST_PIECE: Cells = &[(0, 5, 1), (3, 0, 1), (3, 1, 0), (3, 2, 4), (3, 7, 2)];
-
-static OTHER_PIECE: Cells = &[(1, 4, 2)];
-
-static BOTH: Cells = &[
-    (0, 5, 1),
-    (1, 4, 2),
-    (2, 3, 3),
-    (3, 0, 1),
-    (3, 1, 0),
-    (3, 2, 4),
-    (3, 7, 2),
-    (4, 1, 5),
-    (5, 0, 6),
-];
-
-// A base that was made for a shard, and the same once more.
-fn made(rt: &impl Abort, alloc: Global, number: u64, cells: Cells) -> (ShardBase, Arc<Hyper>) {
-    let base = Arc::new(alloc, matrix(rt, alloc, cells)).expect(rt, "memory");
-    let again = Arc::try_clone(&base).expect(rt, "a pointer");
-    (ShardBase { number, base }, again)
-}
-
-#[test]
-fn a_piece_of_a_sum_is_what_was_made_for_its_shard(rt: HostRuntime) {
-    let whole = matrix(&rt, rt.alloc(), SIX_ROWS);
-    let pieces = Pieces::cut(rt.alloc(), &whole, 3).expect(&rt, "memory");
-    let added = matrix(&rt, rt.alloc(), ONE_ROW);
-    // The other lacks row 4, so it is no piece of the sum.
-    let (first, first_again) = made(&rt, rt.alloc(), 0, FIRST_PIECE);
-    let (other, other_again) = made(&rt, rt.alloc(), 1, OTHER_PIECE);
-    let bases = [first, other];
-    let sum = pieces
-        .with_added(rt.alloc(), &added, &bases)
-        .expect(&rt, "memory");
-    drop(bases);
-    assert!(rt; has_cells(&rt, rt.alloc(), &sum, BOTH));
-    assert!(rt; Arc::try_unwrap(first_again).is_err());
-    assert!(rt; Arc::try_unwrap(other_again).is_ok());
-    drop(sum);
 }

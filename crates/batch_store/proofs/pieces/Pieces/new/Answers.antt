@@ -6,7 +6,7 @@ use Rattle.hyper_matrix.specs.Matrix.{Matrix}
 use Rattle.layer_compaction.specs.Shared.{all_counts, content, values}
 use Rattle.batch_store.specs.Pieces.{AllLie, all_entries}
 use Rattle.batch_store.proofs.PieceSums.{pieces_entries, pieces_lie}
-use Rattle.batch_store.proofs.pieces.Pieces.of.Goals as goal
+use Rattle.batch_store.proofs.pieces.Pieces.new.Goals as goal
 
 pub invariant_of-result : goal.invariant_of-result
 invariant_of-result c =
