@@ -1,7 +1,8 @@
 -- Batches that are known to be from a list, and shards whose records are.
 use Rattle.std.proofs.Common.{◌≡◌, ℕ, zero, suc, ◌+◌, ◌<◌, Bool, true, false, cond, eqb, ◌&&◌, List, [], ◌∷◌, ◌++◌}
-use Rattle.std.proofs.Common.{length, get_or, Some, refl, sym, ◌∙◌, ap, subst, arith, append_assoc}
+use Rattle.std.proofs.Common.{drop, length, take, get_or, Some, refl, sym, ◌∙◌, ap, subst, arith, append_assoc}
 use Rattle.std.specs.Prelude.{slice_get}
+use Rattle.std.proofs.lemmas.List.{take-append-drop}
 use Rattle.std.specs.List.{IsDistinct, AllByRecursion}
 use Rattle.std.proofs.lemmas.Bool.{and_parts, eq-eqb, eqb-true}
 use mathlib.Core.List.{IsPrefix}
@@ -13,8 +14,10 @@ use Rattle.batch_store.specs.Accepted.{Accepted}
 use Rattle.batch_store.specs.Books.{AreDistinct}
 use Rattle.batch_store.specs.Parts.{concerns, concerned}
 use Rattle.batch_store.specs.Shards.{Holding}
-use Rattle.plain_engine.specs.Standing.{Stand}
-use Rattle.plain_engine.specs.Known.{found, AreFrom, AllFrom, IsBased, AreBased}
+use Rattle.batch_store.specs.ShardFolds.{pair_of, pairs_of}
+use Rattle.batch_store.specs.declared.pair.Pair.{Pair}
+use Rattle.plain_engine.specs.Standing.{AreTogether, Stand}
+use Rattle.plain_engine.specs.Known.{AreNumbered, found, AreFrom, AllFrom, IsBased, AreBased}
 
 -- what stands behind folded entries
 pub distinct_behind : (es : List Entry) (list : List Submission) → IsDistinct same_pair (es ++ entries_of list) →
@@ -196,3 +199,76 @@ pub based_push : (a : Accepted) (k : ℕ) (xs : List Holding) (x : Holding) → 
     AreBased a k (xs ++ x ∷ [])
 based_push a k [] x h here = (here, tt)
 based_push a k (y ∷ ys) x h here = (h.0, based_push a k ys x h.1 here)
+
+-- shards that belong together have their places for their numbers
+pub together_numbered : (k : ℕ) (a : Accepted) (i : ℕ) (xs : List Holding) → AreTogether k a i xs → AreNumbered i xs
+together_numbered k a i [] h = h
+together_numbered k a i (x ∷ xs) h = (h.0, together_numbered k a (i + 1) xs h.3)
+
+pub numbered_place : (s : ℕ) (xs : List Holding) (i : ℕ) (x : Holding) → AreNumbered s xs → i < length xs →
+    x ≡ get_or xs i x → x.number ≡ s + i
+numbered_place s [] i x h here is = absurd (omega (arith, here))
+numbered_place s (y ∷ ys) zero x h here is =
+    let same : x.number ≡ y.number = ap (λ (z : Holding). z.number) is in omega (arith, same, h.0)
+numbered_place s (y ∷ ys) (suc i) x h here is =
+    let rest = numbered_place (s + 1) ys i x h.1 (omega (arith, here)) is in omega (arith, rest)
+
+-- ---- all batches of a list are from it, and so are those of its parts
+listed_behind : (list pre rest : List Submission) → pre ++ rest ≡ list → AreDistinct list → AreFrom list rest
+listed_behind list pre [] cut distinct = refl
+listed_behind list pre (b ∷ bs) cut distinct =
+    let at : slice_get list (length pre) ≡ Some b =
+    subst (λ (l : List Submission). slice_get l (length pre) ≡ Some b) cut (place_behind pre b bs) in
+    from_both list bs b (found_here list (length pre) b b distinct at (self_pair b))
+    (listed_behind list (pre ++ b ∷ []) bs (append_assoc pre (b ∷ []) bs ∙ cut) distinct)
+
+from_front : (list xs ys : List Submission) → AreFrom list (xs ++ ys) → AreFrom list xs
+from_front list [] ys h = refl
+from_front list (x ∷ xs) ys h =
+    from_both list xs x (from_head list (xs ++ ys) x h) (from_front list xs ys (from_tail list (xs ++ ys) x h))
+
+pub from_taken : (list held : List Submission) (m : ℕ) → AreFrom list held → AreFrom list (take m held)
+from_taken list held m h =
+    from_front list (take m held) (drop m held)
+    (subst (λ (l : List Submission). AreFrom list l) (sym (take-append-drop m held)) h)
+
+pub from_left : (list held : List Submission) (m : ℕ) → AreFrom list held → AreFrom list (drop m held)
+from_left list held m h =
+    from_behind list (take m held) (drop m held)
+    (subst (λ (l : List Submission). AreFrom list l) (sym (take-append-drop m held)) h)
+
+pub listed_from : (list : List Submission) (n : ℕ) → AreDistinct list → AreFrom list (drop n list)
+listed_from list n distinct = listed_behind list (take n list) (drop n list) (take-append-drop n list) distinct
+
+pub from_concerned : (s k : ℕ) (list held : List Submission) → AreFrom list held → AreFrom list (concerned s k held)
+from_concerned s k list [] h = refl
+from_concerned s k list (b ∷ bs) h =
+    by (concerns s k b.matrix.counts) (from_head list bs b h) (from_concerned s k list bs (from_tail list bs b h))
+  where
+    by : (t : Bool) → found b list ≡ Some b → AreFrom list (concerned s k bs) →
+        AreFrom list (cond t (b ∷ concerned s k bs) (concerned s k bs))
+    by true here behind = from_both list (concerned s k bs) b here behind
+    by false here behind = behind
+
+-- ---- batches that are from one list are told apart by client and number
+same_found : (list : List Submission) (x y : Submission) → x.client ≡ y.client → x.number ≡ y.number →
+    found x list ≡ found y list
+same_found [] x y clients numbers = refl
+same_found (z ∷ zs) x y clients numbers =
+    λ i. cond (eqb (clients i) z.client && eqb (numbers i) z.number) (Some z) (same_found zs x y clients numbers i)
+
+from_pair : (list : List Submission) (x y : Submission) → found x list ≡ Some x → found y list ≡ Some y →
+    x.client ≡ y.client → x.number ≡ y.number → x ≡ y
+from_pair list x y own other clients numbers = cc (own, other, same_found list x y clients numbers)
+
+pub same_pairs : (list xs ys : List Submission) → AreFrom list xs → AreFrom list ys → pairs_of xs ≡ pairs_of ys → xs ≡ ys
+same_pairs list [] [] from_xs from_ys same = refl
+same_pairs list [] (y ∷ ys) from_xs from_ys same = absurd cc
+same_pairs list (x ∷ xs) [] from_xs from_ys same = absurd cc
+same_pairs list (x ∷ xs) (y ∷ ys) from_xs from_ys same =
+    let first : pair_of x ≡ pair_of y = cc in
+    let rest : pairs_of xs ≡ pairs_of ys = cc in
+    let one = from_pair list x y (from_head list xs x from_xs) (from_head list ys y from_ys)
+    (ap (λ (p : Pair). p.client) first) (ap (λ (p : Pair). p.number) first) in
+    let all = same_pairs list xs ys (from_tail list xs x from_xs) (from_tail list ys y from_ys) rest in
+    λ i. one i ∷ all i

@@ -12,4 +12,3 @@ pub mod LoadLaws
 mod WalkLaws
 pub mod FoldTogetherLaws
 pub mod RoundLaws
-pub mod BaseLaws

@@ -1,17 +1,18 @@
 -- Runs with folds are runs without them, with so many batches folded; and in rounds book and records fold the same.
-use Rattle.std.proofs.Common.{◌≡◌, ℕ, zero, suc, ◌+◌, ◌<◌, ◌≤◌, List, [], ◌∷◌, ◌++◌, length, take, drop, map, Option, None, Some}
+use Rattle.std.proofs.Common.{◌≡◌, ℕ, zero, suc, ◌+◌, ◌-◌, ◌<◌, ◌≤◌, List, [], ◌∷◌, ◌++◌, length, take, drop, map, Option, None, Some}
 use Rattle.std.proofs.Common.{refl, sym, ◌∙◌, ap, subst, arith, append-nil, append_assoc, length-append}
 use Rattle.std.proofs.lemmas.List.{take-append-le, drop-append-le, map-append, take_all, length-map, length-drop}
 use Rattle.std.proofs.lemmas.Option.{none-some}
+use Rattle.std.proofs.Math.Seq.{drop-append_seam}
 use Rattle.std.specs.FinMap.{empty}
 use Rattle.hyper_matrix.specs.Counts.{Counts, ewise_add, part}
 use Rattle.hyper_matrix.proofs.CountLaws.{ewise_add_assoc, ewise_add-empty}
 use Rattle.batch_store.specs.Setups.{Setting}
 use Rattle.batch_store.specs.Batches.{Submission, entry_of, entries_of}
 use Rattle.batch_store.specs.Accepted.{Accepted, accepted, list_sum, summed, with_batch}
-use Rattle.batch_store.specs.BookFolds.{folded_to}
+use Rattle.batch_store.specs.BookFolds.{folded_to, record_of}
 use Rattle.batch_store.specs.Parts.{concerned, record_content}
-use Rattle.batch_store.proofs.SumLaws.{list_sum-append}
+use Rattle.batch_store.proofs.SumLaws.{list_sum-append, record-whole}
 use Rattle.batch_store.proofs.BookFoldLaws.{cut_further}
 use Rattle.batch_store.proofs.ShardFoldLaws.{record_content-append}
 use Rattle.plain_engine.specs.World.{World, Event, world, record_at, append_at, Delivers, Admits, Runs, RunsLocked}
@@ -20,7 +21,7 @@ use Rattle.plain_engine.specs.World.{StepsLocked, FindsFree, Starts, parts_for, 
 use Rattle.plain_engine.specs.World.Event.{Admit, Deliver}
 use Rattle.plain_engine.specs.Rounds.{Record, kept, Folding, Act, kept_at, kept_with, fold_at, RunsFolding, StartsFolding}
 use Rattle.plain_engine.specs.Rounds.{DeliversTo, AdmitsTo, FoldsBook, FoldsRecord, AllTogether, own_content, Due, due, due_at}
-use Rattle.plain_engine.specs.Rounds.{done_at, IsOver, all_of, Turn, Turns, RunsInRounds}
+use Rattle.plain_engine.specs.Rounds.{done_at, IsOver, Begins, IsChecked, all_of, Turn, Turns, RunsInRounds}
 use Rattle.plain_engine.specs.Rounds.Act.{Put, FoldBook, FoldRecord}
 use Rattle.plain_engine.specs.Rounds.Turn.{Begin, Step}
 use Rattle.plain_engine.proofs.WorldLaws.{run_agrees, length-append_at}
@@ -569,3 +570,50 @@ rounds_run v u d (Step (FoldBook n) ∷ ts) x e run =
 rounds_run v u d (Step (FoldRecord s m) ∷ ts) x e run =
     let rest = rounds_run v run.0 run.1 ts x e run.3 in
     (FoldRecord s m ∷ rest.0, (run.0, (run.2.1, rest.1)))
+
+-- where a round begins it is checked
+all_of_record : (s k : ℕ) (a : Accepted) →
+    concerned s k a.list ≡ record_of s k a a.list (length a.folded) (length a.folded + length a.list)
+all_of_record s k a =
+    let f = length a.folded in
+    let n = length a.list in
+    let all : take n a.list ≡ a.list = take_all n a.list (omega arith) in
+    ap (concerned s k) (sym all)
+    ∙ ap (λ (m : ℕ). concerned s k (take m a.list)) {x = n} {y = f + n - f} (omega arith)
+    ∙ ap (λ (m : ℕ). concerned s k (take (f + n - f) (drop m a.list))) {x = 0} {y = f - f} (omega arith)
+
+pub rounds_checked : (v : Setting) (u : Folding) (d : Due) (ts : List Turn) (x : Folding) (e : Due) (y : Folding) (f : Due)
+    (s : ℕ) → StartsFolding v u → IsOver d → RunsInRounds v u d ts x e → Begins x e y f → s < v.shards →
+    IsChecked v.shards x s
+rounds_checked v u d ts x e y f s st over run begins below =
+    let here = rounds_together v u d ts x e st over run begins.flight begins.over s below in
+    record { base = here.0; list = here.1 ∙ all_of_record s v.shards x.book }
+
+fold_here : (i k : ℕ) (rs : List Record) (s m : ℕ) → s < length rs →
+    kept_at (fold_at i k rs s m) s ≡
+    kept (record_content (i + s) k (kept_at rs s).base (take m (kept_at rs s).list)) (drop m (kept_at rs s).list)
+fold_here i k [] s m here = absurd (omega arith)
+fold_here i k (r ∷ rs) zero m here =
+    ap (λ j. kept (record_content j k r.base (take m r.list)) (drop m r.list)) {x = i} {y = i + 0} (omega arith)
+fold_here i k (r ∷ rs) (suc s) m here =
+    fold_here (i + 1) k rs s m (omega arith)
+    ∙ ap (λ j. kept (record_content j k (kept_at rs s).base (take m (kept_at rs s).list)) (drop m (kept_at rs s).list))
+    {x = i + 1 + s} {y = i + suc s} (omega arith)
+
+pub checked_folds : (k s : ℕ) (u : Folding) → s < length u.records → IsChecked k u s →
+    kept_at (fold_at 0 k u.records s (length (kept_at u.records s).list)) s ≡
+    kept (part (folded_to (length u.book.list) u.book).base s k) []
+checked_folds k s u here checked =
+    let r = kept_at u.records s in
+    let m = length r.list in
+    let a = u.book in
+    let all : take m r.list ≡ r.list = take_all m r.list (omega arith) in
+    let none : drop m r.list ≡ [] =
+    ap (λ (l : List Submission). drop m l) (sym (append-nil r.list)) ∙ drop-append_seam r.list [] in
+    let follows : r.list ≡ concerned s k a.list = checked.list ∙ sym (all_of_record s k a) in
+    let whole : take (length a.list) a.list ≡ a.list = take_all (length a.list) a.list (omega arith) in
+    fold_here 0 k u.records s m here
+    ∙ ap (λ (j : ℕ). kept (record_content j k r.base (take m r.list)) (drop m r.list)) {x = 0 + s} {y = s} (omega arith)
+    ∙ (λ i. kept (record_content s k (checked.base i) ((all ∙ follows) i)) (none i))
+    ∙ ap (λ (c : Counts). kept c []) (record-whole s k a
+    ∙ ap (λ (l : List Submission). part (ewise_add a.base (list_sum l)) s k) (sym whole))

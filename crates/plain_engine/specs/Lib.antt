@@ -8,4 +8,3 @@ pub mod Puts
 pub mod Loads
 pub mod Folds
 pub mod Known
-pub mod Bases

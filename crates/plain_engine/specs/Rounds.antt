@@ -14,6 +14,8 @@
 --                     a round begins where nothing is in flight and none is begun, and has one fold of the book, of all
 --                     batches that weren't folded when it began, and one of each record, of all that it had then, in
 --                     any order
+--     IsChecked       a round that begins here is checked: each record has its part of the book's base, and is, in
+--                     order, the batches that are to be folded and concern its shard
 --     RunsInRounds    such turns one after another
 --     own_content     the contents of records over their own bases, added up
 use Rattle.std.specs.Prelude.{◌≡◌, ℕ, zero, suc, ◌+◌, ◌<◌, ◌≤◌, List, [], ◌∷◌, ◌++◌, length, take, drop, map}
@@ -25,7 +27,7 @@ use Rattle.batch_store.specs.declared.verdict.Verdict.TheVariants.{Fresh}
 use Rattle.batch_store.specs.Setups.{Setting}
 use Rattle.batch_store.specs.Accepted.{Accepted, entries_in, with_batch}
 use Rattle.batch_store.specs.Batches.{Submission}
-use Rattle.batch_store.specs.BookFolds.{folded_to}
+use Rattle.batch_store.specs.BookFolds.{folded_to, record_of}
 use Rattle.batch_store.specs.Parts.{record_content}
 use Rattle.batch_store.specs.Verdicts.{same_pair}
 use Rattle.plain_engine.specs.Object.{verdict_in}
@@ -147,6 +149,11 @@ pub record Begins (w : Folding) (d : Due) (u : Folding) (e : Due) : Type 0 where
   pub flight : w.flight ≡ []
   pub same : u ≡ w
   pub now : e ≡ due (Some (length w.book.list)) (map all_of w.records)
+
+pub record IsChecked (k : ℕ) (w : Folding) (s : ℕ) : Type 0 where
+  pub base : (kept_at w.records s).base ≡ part w.book.base s k
+  pub list : (kept_at w.records s).list ≡
+      record_of s k w.book w.book.list (length w.book.folded) (length w.book.folded + length w.book.list)
 
 pub data Turn : Type 0 where
   Begin : Turn

@@ -1,12 +1,9 @@
-//! An engine from parts of which it is known where they come from: `join_parts` without a look at a batch's cells, and
-//! where nothing was folded since without one at any.
-ghost use Rattle.std.specs.Prelude.{◌≡◌, ◌<◌, ◌≤◌, ◌↔◌, IfOk, IfErr, IsOk, IsTrue, false, true, length};
+//! An engine from parts of which it is known where they come from: `join_parts` without a look at any cell.
+ghost use Rattle.std.specs.Prelude.{◌≡◌, ◌<◌, ◌↔◌, IfOk, IfErr, IsOk, IsTrue, true, length};
 ghost use Rattle.plain_engine.specs.Records.{Follows};
-ghost use Rattle.plain_engine.specs.Bases.{AreNumbered};
-ghost use Rattle.plain_engine.specs.Known.{IsFromBehind, AllFromBehind, AreBased};
+ghost use Rattle.plain_engine.specs.Known.{AreNumbered, IsFromBehind, AllFromBehind, AreBased};
 ghost use Rattle.plain_engine.specs.Standing.{standing, HaveSetup, AreTogether, Stand};
 
-use crate::bases::bases_follow;
 use crate::engine::PlainEngine;
 use batch_store::{Batch, Book, Setup, Shard};
 
@@ -60,37 +57,22 @@ fn are_numbered(shards: &[Shard]) -> bool
     true
 }
 
-// Whether each shard's base is the book's cut to its rows. They are compared cell by cell where they are `rebased`, and
-// known else.
-fn are_based(shards: &[Shard], book: &Book, rebased: bool) -> bool
-    requires some { 0 < length shards.now }
-    requires few { length shards.now ≤ 64 }
-    requires numbered { AreNumbered 0 shards.now }
-    requires based { rebased ≡ false → AreBased book.now.state (length shards.now) shards.now }
-    ensures { IsTrue result ↔ AreBased book.now.state (length shards.now) shards.now }
-{
-    !rebased || bases_follow(shards, book)
-}
-
-/// An engine of a book and its shards, which were made with this setup, where each batch in a record is known to be the
-/// book's, or to have been before the book folded it. Unless they are `rebased` each base is known to be its part of the
-/// book's; else bases are compared, cell by cell. It takes no memory, and reads no batch but for which shards it
-/// concerns.
+/// An engine of a book and its shards, which were made with this setup, where each base is known to be its part of the
+/// book's, and each batch in a record to be the book's, or to have been before the book folded it. It takes no memory,
+/// and reads no batch but for which shards it concerns.
 ///
 /// # Errors
 ///
-/// There isn't a shard for each number below the setup's shards, a shard's number isn't its place, its base isn't the
-/// book's cut to its rows, or its record isn't, in order, the book's batches that aren't folded and concern it. Book and
-/// shards are handed back as they were.
+/// There isn't a shard for each number below the setup's shards, a shard's number isn't its place, or its record isn't,
+/// in order, the book's batches that aren't folded and concern it. Book and shards are handed back as they were.
 pub fn join_known(
     setup: Setup,
     book: Book,
     shards: Vec<Shard>,
-    rebased: bool,
 ) -> Result<PlainEngine, (Book, Vec<Shard>)>
     requires book { book.setup ≡ setup }
     requires shards { HaveSetup setup shards.items }
-    requires based { rebased ≡ false → AreBased book.state setup.shards shards.items }
+    requires based { AreBased book.state setup.shards shards.items }
     requires known { AllFromBehind book.state.list shards.items }
     ensures ok { IfOk result (λ e. e ≡ standing setup book shards.items) }
     ensures err { IfErr result (λ r. (r.0 ≡ book) × (r.1 ≡ shards)) }
@@ -100,7 +82,7 @@ pub fn join_known(
     if shards.len() as u64 != setup.shards() {
         return Err((book, shards));
     }
-    if !known_together(&setup, &book, &shards, rebased) {
+    if !known_together(&setup, &book, &shards) {
         return Err((book, shards));
     }
     // Any call on a book tells what it keeps.
@@ -108,20 +90,17 @@ pub fn join_known(
     Ok(PlainEngine::of_parts(setup, book, shards))
 }
 
-// Whether each shard has its place for its number, and its base and its record follow the book.
-fn known_together(setup: &Setup, book: &Book, shards: &[Shard], rebased: bool) -> bool
+// Whether each shard has its place for its number, and its record follows the book, as its base is known to.
+fn known_together(setup: &Setup, book: &Book, shards: &[Shard]) -> bool
     requires count { length shards.now ≡ setup.now.shards }
     requires made { HaveSetup setup.now shards.now }
-    requires based { rebased ≡ false → AreBased book.now.state setup.now.shards shards.now }
+    requires based { AreBased book.now.state setup.now.shards shards.now }
     requires known { AllFromBehind book.now.state.list shards.now }
     ensures stand { result ≡ true → Stand setup.now book.now.state 0 shards.now }
     ensures exactly { IsTrue result ↔ AreTogether setup.now.shards book.now.state 0 shards.now }
 {
     let k = setup.shards();
     if !are_numbered(shards) {
-        return false;
-    }
-    if !are_based(shards, book, rebased) {
         return false;
     }
     'shards: for shard in shards {

@@ -10,7 +10,6 @@
 //! of what they leave.
 #![tactic(auto)]
 
-mod bases;
 mod engine;
 mod export;
 mod fault;

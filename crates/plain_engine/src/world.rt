@@ -7,7 +7,7 @@
 //! run is any interleaving of puts, each of which admits its batch once and delivers its parts one by one. The
 //! definitions stand in specs/World.antt; no code runs them. Folds beside puts, and the rounds that they come in, stand in
 //! specs/Rounds.antt.
-ghost use Rattle.std.specs.Prelude.{◌≡◌, ℕ, ◌≤◌, List, [], ◌∷◌, ◌++◌, length, take, drop};
+ghost use Rattle.std.specs.Prelude.{◌≡◌, ℕ, ◌<◌, ◌≤◌, List, [], ◌∷◌, ◌++◌, length, take, drop};
 ghost use Rattle.std.specs.FinMap.{get};
 ghost use Rattle.hyper_matrix.specs.Counts.{Place, plus};
 ghost use Rattle.batch_store.specs.declared.verdict.Verdict.TheVariants.{Fresh};
@@ -24,7 +24,7 @@ ghost use Rattle.plain_engine.specs.World.{World, Event, Starts, Runs, RunsLocke
 ghost use Rattle.plain_engine.specs.World.{deliveries, held_in, records_content, flight_content};
 ghost use Rattle.plain_engine.specs.World.Event.{Admit};
 ghost use Rattle.plain_engine.specs.Rounds.{Folding, Act, Due, Turn, StartsFolding, RunsFolding, RunsInRounds, IsOver};
-ghost use Rattle.plain_engine.specs.Rounds.{AllTogether, own_content};
+ghost use Rattle.plain_engine.specs.Rounds.{AllTogether, Begins, IsChecked, fold_at, kept, kept_at, own_content};
 
 /// After every lawful run, cell by cell, the sum of all that was accepted is the sum of the records' contents, each
 /// with its part of the base, and of the parts in flight, and no client and number stands twice in a record. With
@@ -86,4 +86,17 @@ pub fn rounds_agree()
     ensures together { (v : Setting) (w : Folding) (d : Due) (ts : List Turn) (u : Folding) (e : Due) →
         StartsFolding v w → IsOver d → RunsInRounds v w d ts u e → u.flight ≡ [] → IsOver e →
         AllTogether v.shards u.records u.book }
+{}
+
+/// A locked run whose folds come in rounds has checked rounds alone: where a round begins, each record has its part of
+/// the base, and is, in order, the batches that are to be folded and concern its shard. Then the fold of all that a
+/// record had leaves it the part of what the book's fold leaves. So where a check fails, something else than the order
+/// of threads is at fault.
+pub fn rounds_are_checked()
+    ensures checked { (v : Setting) (w : Folding) (d : Due) (ts : List Turn) (u : Folding) (e : Due) (x : Folding)
+        (f : Due) (s : ℕ) → StartsFolding v w → IsOver d → RunsInRounds v w d ts u e → Begins u e x f → s < v.shards →
+        IsChecked v.shards u s }
+    ensures folds { (k s : ℕ) (u : Folding) → s < length u.records → IsChecked k u s →
+        kept_at (fold_at 0 k u.records s (length (kept_at u.records s).list)) s ≡
+        kept (part (folded_to (length u.book.list) u.book).base s k) [] }
 {}

@@ -1,5 +1,5 @@
 use Rattle.std.proofs.Common.{◌≡◌, ◌↔◌, drop}
-use Rattle.plain_engine.specs.Bases.{AreNumbered}
+use Rattle.plain_engine.specs.Known.{AreNumbered}
 use Rattle.plain_engine.proofs.known.are_numbered.Given as goal
 
 abbrev pub invariant-shards : goal.invariant-shards

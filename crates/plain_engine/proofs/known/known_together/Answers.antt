@@ -1,12 +1,10 @@
-use Rattle.std.proofs.Common.{◌≡◌, ◌++◌, ◌∙◌, sym, subst, arith, ℕ}
+use Rattle.std.proofs.Common.{◌≡◌, ◌++◌, ◌∙◌, sym, arith}
 use Rattle.hyper_matrix.specs.Counts.{part}
 use Rattle.batch_store.specs.Parts.{concerned}
 use Rattle.plain_engine.specs.Records.{Follows}
 use Rattle.plain_engine.specs.Standing.{AreTogether}
-use Rattle.plain_engine.specs.Known.{AreBased}
 use Rattle.plain_engine.proofs.StandLaws.{stand_next, together_next}
-use Rattle.plain_engine.proofs.KnownLaws.{from_here, based_place}
-use Rattle.plain_engine.proofs.BaseLaws.{numbered_place, together_numbered, together_based}
+use Rattle.plain_engine.proofs.KnownLaws.{from_here, based_place, numbered_place, together_numbered}
 use Rattle.plain_engine.proofs.known.known_together.Goals as goal
 
 pub returns-then-not-are_numbered-clause-exactly : goal.returns-then-not-are_numbered-clause-exactly
@@ -14,17 +12,6 @@ returns-then-not-are_numbered-clause-exactly c = (
   λ h. absurd cc,
   λ all. sym c.if-not-are_numbered.true ∙ c.are_numbered.ensures.1 (together_numbered c.args.setup.now.shards
       c.args.book.now.state 0 c.args.shards.now all),
-)
-
-pub returns-then-not-are_based-clause-exactly : goal.returns-then-not-are_based-clause-exactly
-returns-then-not-are_based-clause-exactly c = (
-  λ h. absurd cc,
-  λ all.
-      let a = c.args.book.now.state in
-      let xs = c.args.shards.now in
-      let based = together_based c.args.setup.now.shards a 0 xs all in
-      sym c.if-not-are_based.true
-      ∙ c.are_based.ensures.1 (subst (λ (k : ℕ). AreBased a k xs) (sym c.requires.count) based),
 )
 
 -- the record of the shard at this place is from the book
@@ -48,9 +35,8 @@ shards-preserved c =
     let numbered = c.are_numbered.ensures.0 c.if-not-are_numbered.false in
     let number : x.number ≡ i =
     omega (arith, numbered_place 0 xs i x numbered c.shards-test.true c.shard-item.is) in
-    let all : AreBased a v.shards xs = subst (λ (k : ℕ). AreBased a k xs) c.requires.count
-    (c.are_based.ensures.0 c.if-not-are_based.false) in
-    let based : x.base ≡ part a.base i v.shards = based_place a v.shards xs i x all c.shards-test.true c.shard-item.is
+    let based : x.base ≡ part a.base i v.shards = based_place a v.shards xs i x c.requires.based c.shards-test.true
+    c.shard-item.is
     ∙ (λ j. part a.base (number j) v.shards) in
     let place : c.number.result ≡ i = c.number.ensures.value ∙ number in
     let told = c.known_follows.ensures.0 c.if-not-known_follows.false in
