@@ -106,7 +106,7 @@ pub fn put_beside<
 {
     let (first, second, third) = three_seats(rt, seats);
     let ended = AtomicU64::new(0);
-    let mut folder = folder_of(rt, alloc, engine);
+    let mut folder = folder_of(rt, engine);
     let (found, fits) = thread::join(
         rt,
         || put_from_both(rt, alloc, engine, first, second, &ended),

@@ -45,6 +45,8 @@ pub enum Act {
     CompactTwice,
     /// Batches are put between the steps of a fold.
     FoldInSteps,
+    /// Batches of one shard are folded, and then one of the other.
+    FoldTwice,
     /// Batches are put over a log.
     Log(Story),
 }
@@ -147,6 +149,7 @@ fn perform<
         Act::PutBeside(work) => beside::put_beside(rt, alloc, engine, seats, work),
         Act::CompactTwice => compactions::compact_twice(rt, alloc, engine, seats),
         Act::FoldInSteps => folding::fold_in_steps(rt, alloc, engine, seats),
+        Act::FoldTwice => folding::fold_twice(rt, alloc, engine, seats),
         Act::Log(story) => logs::play(rt, alloc, engine, seats, story),
     }
 }

@@ -2,7 +2,7 @@
 ghost use Rattle.std.specs.Prelude.{◌≡◌, None};
 
 use crate::cases::{Act, Case, Listed, NOTHING, play};
-use crate::expected::{expect_counts, expect_list};
+use crate::expected::{expect_counts, expect_list, expect_pieces};
 use crate::opened::{Step, put_all, two_seats};
 use locked_engine::PutFault::NumberReused;
 use locked_engine::{Engine, Folder, Named, Seat};
@@ -22,6 +22,10 @@ const THREE: Cells = &[(0, 0, 3)];
 
 const TWO: Cells = &[(0, 0, 2)];
 
+const TEN: Cells = &[(0, 0, 10)];
+
+const SEVEN: Cells = &[(1, 1, 7)];
+
 static BEFORE: &[Step] = &[(7, 1, FIVE, Ok((0, 5))), (8, 1, THREE, Ok((1, 8)))];
 
 // What was folded keeps its replies, and a new batch takes the next index.
@@ -32,6 +36,9 @@ static AFTER: &[Step] = &[
     (9, 1, TWO, Ok((2, 10))),
     (7, 1, FIVE, Ok((0, 5))),
 ];
+
+// What concerns the other shard alone.
+static OTHER_ROW: &[Step] = &[(9, 2, SEVEN, Ok((3, 17)))];
 
 const ALL: &[Listed] = &[(7, 1, FIVE), (8, 1, THREE), (9, 1, TWO)];
 
@@ -53,6 +60,26 @@ fn folds_leave_every_answer(rt: HostRuntime) {
         rt.alloc(),
         small_setup().expect(&rt, "a setup"),
         &IN_STEPS,
+    );
+}
+
+static TWICE: Case = Case {
+    act: Act::FoldTwice,
+    accepted: (4, 17),
+    folded: 4,
+    shards: &[(0, 10, 0), (1, 7, 0)],
+    batches: Some(&[]),
+    ..NOTHING
+};
+
+// A shard whose record is empty is folded with the others: else it would be closed as one that differs.
+#[test]
+fn a_shard_without_batches_is_folded_too(rt: HostRuntime) {
+    play(
+        &rt,
+        rt.alloc(),
+        small_setup().expect(&rt, "a setup"),
+        &TWICE,
     );
 }
 
@@ -87,11 +114,10 @@ fn expect_accepted<N: Named, H: Ledger, R: Wait + Abort + Eprint>(
 /// The engine's one folder.
 pub fn folder_of<N: Named, H: Ledger, R: Wait + Abort>(
     rt: &R,
-    alloc: Global,
     engine: &Engine<N, H>,
 ) -> Folder {
-    let folder = engine.folder(alloc).expect(rt, "the folder");
-    assert!(rt; engine.folder(alloc).is_none());
+    let folder = engine.folder().expect(rt, "the folder");
+    assert!(rt; engine.folder().is_none());
     folder
 }
 
@@ -105,7 +131,7 @@ pub fn fold_in_steps<N: Named, H: Ledger, R: Wait + Abort + Eprint>(
     requires { N.log ≡ None }
 {
     let (first, second) = two_seats(rt, seats);
-    let mut folder = folder_of(rt, alloc, engine);
+    let mut folder = folder_of(rt, engine);
     // There is nothing to fold yet.
     let folds = engine.fold(rt, alloc, &mut folder).expect(rt, "memory");
     assert!(rt; !folds);
@@ -117,7 +143,7 @@ pub fn fold_in_steps<N: Named, H: Ledger, R: Wait + Abort + Eprint>(
     put_all(rt, alloc, engine, second, AFTER);
     expect_backlog(rt, engine, (0, 0, 1));
     expect_accepted(rt, alloc, engine, first, ALL);
-    folder.run(alloc).expect(rt, "memory");
+    folder.run(rt, alloc, engine).expect(rt, "memory");
     expect_accepted(rt, alloc, engine, first, ALL);
     expect_sealed(rt, alloc, engine, &mut folder, Some(2));
     assert!(rt; engine.settle_fold(rt, alloc, &mut folder));
@@ -140,4 +166,40 @@ fn expect_sealed<N: Named, H: Ledger, R: Wait + Abort + Eprint>(
 ) {
     let place = engine.begin_fold(rt, alloc, folder).expect(rt, "memory");
     assert!(rt; same(rt, &(place, folder.place()), &(expected, expected)));
+}
+
+// Folds all that was accepted, and compares the pieces of the base.
+fn expect_folded<N: Named, H: Ledger, R: Wait + Abort + Eprint>(
+    rt: &R,
+    alloc: Global,
+    engine: &Engine<N, H>,
+    seat: &mut Seat<N, H>,
+    folder: &mut Folder,
+    pieces: &[Cells],
+)
+    requires { N.log ≡ None }
+{
+    assert!(rt; engine.fold(rt, alloc, folder).expect(rt, "a fold"));
+    let list = engine.book_list(rt, alloc, seat).expect(rt, "memory");
+    expect_pieces(rt, alloc, &list.base, pieces);
+    drop(list);
+}
+
+/// Folds three batches of shard 0, and then one of shard 1.
+pub fn fold_twice<N: Named, H: Ledger, R: Wait + Abort + Eprint>(
+    rt: &R,
+    alloc: Global,
+    engine: &Engine<N, H>,
+    seats: &mut [Seat<N, H>],
+)
+    requires { N.log ≡ None }
+{
+    let (first, _) = two_seats(rt, seats);
+    let mut folder = folder_of(rt, engine);
+    put_all(rt, alloc, engine, first, BEFORE);
+    put_all(rt, alloc, engine, first, AFTER);
+    expect_folded(rt, alloc, engine, first, &mut folder, &[TEN, &[]]);
+    put_all(rt, alloc, engine, first, OTHER_ROW);
+    expect_folded(rt, alloc, engine, first, &mut folder, &[TEN, SEVEN]);
+    drop(folder);
 }

@@ -10,3 +10,4 @@ pub mod ShownLaws
 pub mod FollowLaws
 pub mod CountedLaws
 pub mod FoldedLaws
+pub mod SealLaws

@@ -1,12 +1,13 @@
 //! Closing: once all seats are given back, the locks are taken away, and the books must agree.
-ghost use Rattle.std.specs.Prelude.{◌≡◌, ◌≢◌, ◌+◌, ◌≤◌, ◌<◌, IfOk, OnOk, [], List, false, length, vec_len, vec_capacity};
+ghost use Rattle.std.specs.Prelude.{◌≡◌, ◌≢◌, ◌+◌, ◌≤◌, ◌<◌, ◌↔◌, ◌⊎◌, IfOk, IfErr, IsOk, OnOk, IsTrue, [], List, true, false, length, vec_len, vec_capacity};
 ghost use mathlib.Core.List.{IsPrefix};
 ghost use Rattle.batch_store.specs.declared.verdict.Entry.{Entry};
 ghost use Rattle.batch_store.specs.Accepted.{entries_in, total_in};
 ghost use Rattle.batch_store.specs.Batches.{Submission};
-ghost use Rattle.plain_engine.specs.Standing.{AreTogether, HaveSetup, IsWhole, shards_total};
-ghost use Rattle.plain_engine.specs.Known.{AllFrom, AreBased};
+ghost use Rattle.plain_engine.specs.Standing.{AreTogether, HaveSetup, IsWhole, shards_total, standing};
+ghost use Rattle.plain_engine.specs.Known.{AllFrom, AllFromBehind, AreBased};
 ghost use Rattle.locked_engine.specs.Given.{AreKnown};
+ghost use Rattle.locked_engine.specs.Moments.{AreFoldedTo, IsElsewhere};
 ghost use Rattle.locked_engine.specs.Opened.{firsts, HasFolded, SharePast};
 ghost use Rattle.locked_engine.specs.Told.{AreShown};
 
@@ -16,7 +17,7 @@ use crate::locked_shard::LockedShard;
 use crate::names::Named;
 use crate::seat::Seat;
 use crate::version::Version;
-use batch_store::{Book, Shard};
+use batch_store::{Book, Setup, Shard};
 use plain_engine::{PlainEngine, join_known};
 use std::alloc::Global;
 use std::sync::ledger::{Ledger, Share};
@@ -35,9 +36,9 @@ pub enum CloseFault<N: Named, H: Ledger> {
         engine: Engine<N, H>,
         seats: Vec<Seat<N, H>>,
     },
-    /// Some shard's base isn't the book's cut to its rows, or its record isn't, in order, the book's batches that
-    /// aren't folded and concern it. The totals agree all the same. Puts, and folds by the engine's folder, never lead to
-    /// it.
+    /// In some shard's base is another number of batches than in the book's, or its record isn't, in order, the book's
+    /// batches that aren't folded and concern it. The totals agree all the same. Puts, and folds by the engine's
+    /// folder, never lead to it.
     RecordsDiffer {
         shards: Vec<Shard>,
         book: Book,
@@ -48,8 +49,9 @@ impl<N: Named, H: Ledger> Engine<N, H> {
     /// The engine of one thread that has accepted what this one has, where all seats are given back. It takes out what
     /// shows readers the status, which waits for those that read; whoever owns the engine and all its seats has no
     /// thread that does. One growth, of a place for each shard; then the records are compared with the book, by client and
-    /// number, since it is known that their batches are the book's. Where anything was folded since the engine was opened
-    /// the bases are compared too, cell by cell. What is sealed and not settled stays in the records and in the list.
+    /// number, since it is known that their batches are the book's. Each shard's number of folded batches is compared
+    /// with the book's, and no cell: where they are the same, the bases are. What is sealed and not settled stays in
+    /// the records and in the list.
     ///
     /// # Errors
     ///
@@ -79,9 +81,10 @@ impl<N: Named, H: Ledger> Engine<N, H> {
         ensures opened_apart { (shards : _) (book : _) → result ≡ Err (CloseFault.RecordsDiffer shards book) →
             IsPrefix (entries_in N.opened) (entries_in book.state) }
         // Some shard isn't at its place, or its base isn't the book's cut to its rows, or its record isn't the book's
-        // batches that aren't folded and concern it.
+        // batches that aren't folded and concern it; or another number of batches is in its base than in the book's.
         ensures apart { (shards : _) (book : _) → result ≡ Err (CloseFault.RecordsDiffer shards book) →
-            ¬ ((length shards.items ≡ N.setup.shards) × AreTogether N.setup.shards book.state 0 shards.items) }
+            (((length shards.items ≡ N.setup.shards) × AreTogether N.setup.shards book.state 0 shards.items) → ⊥)
+            ⊎ IsElsewhere N.setup N.opened (length book.state.folded) shards.items }
 
         // What each seat was shown begins what the book has accepted.
         ensures shown { IfOk result (λ e. AreShown seats.items (entries_in e.book.state)) }
@@ -117,13 +120,13 @@ impl<N: Named, H: Ledger> Engine<N, H> {
         let (mut first, mut second, seen, known_by_seats) = gather(seats);
         let book = book.into_inner();
         let mut known = book.known();
-        let shards_rebased = unlock_all(locked, &mut shards, &mut second, &mut known);
+        let folded = book.folded_count();
+        let is_folded = unlock_all(locked, &mut shards, &mut second, &mut known, folded);
         known.learn(&known_by_seats);
-        let rebased = book.is_rebased_or(shards_rebased);
         let (book, mut first_number, mut second_number) = book.end(rt, &seen, &known);
         first_number.audit(&mut first);
         second_number.audit(&mut second);
-        match join_known(setup, book, shards, rebased) {
+        match joined(setup, book, shards, is_folded) {
             Ok(plain) => {
                 // Any call on it tells what it keeps.
                 let _setup = plain.setup();
@@ -177,36 +180,61 @@ fn gather<N: Named, H: Ledger>(seats: Vec<Seat<N, H>>) -> (Share<N>, Share<H>, V
     (first, second, seen, known)
 }
 
-// Whether one of both holds.
-fn either(one: bool, other: bool) -> bool
-    ensures { result ≡ false → (one ≡ false) × (other ≡ false) }
+// The engine of one thread of these parts, where the shards are folded as far as the book.
+fn joined(
+    setup: Setup,
+    book: Book,
+    shards: Vec<Shard>,
+    is_folded: bool,
+) -> Result<PlainEngine, (Book, Vec<Shard>)>
+    requires book { book.setup ≡ setup }
+    requires shards { HaveSetup setup shards.items }
+    requires based { is_folded ≡ true → AreBased book.state setup.shards shards.items }
+    requires known { AllFromBehind book.state.list shards.items }
+    ensures ok { IfOk result (λ e. e ≡ standing setup book shards.items) }
+    ensures err { IfErr result (λ r. (r.0 ≡ book) × (r.1 ≡ shards)) }
+    ensures exactly { is_folded ≡ true → IsOk result ↔
+        ((length shards.items ≡ setup.shards) × AreTogether setup.shards book.state 0 shards.items) }
 {
-    one || other
+    if is_folded {
+        join_known(setup, book, shards)
+    } else {
+        Err((book, shards))
+    }
 }
 
-// Takes each shard from behind its lock, with its part of the share and what is known of its batches. Whether anything was
-// folded into one of them since the engine was opened.
+// Whether both hold.
+fn both(one: bool, other: bool) -> bool
+    ensures { IsTrue result ↔ ((one ≡ true) × (other ≡ true)) }
+{
+    one && other
+}
+
+// Takes each shard from behind its lock, with its part of the share and what is known of its batches. Whether so many
+// batches are in the base of each.
 fn unlock_all<N: Named, H: Ledger>(
     locked: Vec<Mutex<LockedShard<N, H>>>,
     shards: &mut Vec<Shard>,
     second: &mut Share<H>,
     known: &mut Known<N>,
+    folded: u64,
 ) -> bool
     requires empty { shards.old.items ≡ [] }
     requires room { vec_len locked ≤ vec_capacity shards.old }
     ensures made { HaveSetup N.setup shards.new.items }
     ensures parts { second.new.parts ≡ second.old.parts + vec_len locked }
     ensures amount { second.new.amount ≡ second.old.amount + shards_total shards.new.items }
-    ensures based { result ≡ false → AreBased N.opened N.setup.shards shards.new.items }
+    ensures at { result ≡ true → AreFoldedTo N.setup N.opened known.new folded shards.new.items }
+    ensures differ { result ≡ false → IsElsewhere N.setup N.opened folded shards.new.items }
     ensures from { AllFrom known.new shards.new.items }
 {
-    let mut rebased = false;
+    let mut is_folded = true;
     'shards: for behind in locked {
-        let (shard, held, from, is_rebased) = behind.into_inner().into_parts();
+        let (shard, held, from, own) = behind.into_inner().into_parts();
         second.merge(held);
         known.learn(&from);
         shards.push_reserved(shard);
-        rebased = either(rebased, is_rebased);
+        is_folded = both(is_folded, own == folded);
     }
-    rebased
+    is_folded
 }

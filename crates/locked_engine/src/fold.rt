@@ -1,16 +1,18 @@
 //! Folding what was accepted while other threads put: it is sealed at one moment, added up without a lock, and settled
 //! by an exchange of pointers.
-ghost use Rattle.std.specs.Prelude.{◌≡◌, ◌↔◌, ◌+◌, ◌≤◌, ◌<◌, None, Ok, IfOk, IfSome, OnOk, OnErr, IsSome, IsTrue, false, true, length};
-ghost use Rattle.std.specs.Prelude.{ℕ, List, Some, is_some, vec_len, vec_capacity};
+ghost use Rattle.std.specs.Prelude.{◌≡◌, ◌↔◌, ◌≤◌, ◌<◌, None, Ok, IfOk, IfSome, OnOk, OnErr, IsSome, IsTrue, false, true, length};
+ghost use Rattle.std.specs.Prelude.{ℕ, List, Some, is_some};
 ghost use Rattle.batch_store.specs.declared.verdict.Entry.{Entry};
-ghost use Rattle.locked_engine.specs.Folders.{nothing_sealed, IsMade};
+ghost use Rattle.locked_engine.specs.Folders.{nothing_sealed, IsMade, checked, checked_at, place_of};
 
 use crate::engine::Engine;
+use crate::fault::FoldFault;
 use crate::folder::Folder;
 use crate::locked_shard::LockedShard;
 use crate::names::Named;
+use crate::sealed::{CheckedPart, SealedBook, SealedPart, pieces_of};
 use crate::shard_version::ShardVersion;
-use batch_store::{BookFold, ReleasedBatches, ReleasedRecord, ShardFold};
+use batch_store::{ReleasedBatches, ReleasedRecord};
 use std::alloc::{AllocError, Global};
 use std::sync::atomic::Ordering;
 use std::sync::ledger::Ledger;
@@ -27,12 +29,6 @@ pub struct Backlog {
     pub cells: u64,
 }
 
-/// The batches of the book that were sealed, and the place up to which they reach.
-pub struct SealedBook {
-    pub place: u64,
-    pub fold: Arc<BookFold>,
-}
-
 // What a shard and its readers let go of: to be dropped when no lock is held.
 #[derive(Drop)]
 struct ReleasedShard<N: Named> {
@@ -42,11 +38,11 @@ struct ReleasedShard<N: Named> {
 
 impl<N: Named, H: Ledger> Engine<N, H> {
     /// The engine's folder, for whoever asks first; None for all others. It waits for nobody and takes no memory.
-    pub fn folder(&self, alloc: Global) -> Option<Folder>
+    pub fn folder(&self) -> Option<Folder>
         ensures { IfSome result (λ f. f ≡ nothing_sealed) }
     {
         if self.has_folder.swap(false, Ordering::SeqCst) {
-            Some(Folder::new(alloc))
+            Some(Folder::new())
         } else {
             None
         }
@@ -73,13 +69,13 @@ impl<N: Named, H: Ledger> Engine<N, H> {
     ///
     /// # Errors
     ///
-    /// A growth was refused. What was sealed stays sealed in the folder, and the next call goes on with it.
+    /// As `Folder::run` says. What was sealed stays sealed, and the next call goes on with it.
     pub fn fold<R: Wait>(
         &self,
         rt: &R,
         alloc: Global,
         folder: &mut Folder,
-    ) -> Result<bool, AllocError>
+    ) -> Result<bool, FoldFault>
         requires unlogged { N.log ≡ None }
         ensures ok { OnOk result (folder.new ≡ nothing_sealed) }
         ensures nothing { result ≡ Ok false → folder.old.place ≡ None }
@@ -88,12 +84,12 @@ impl<N: Named, H: Ledger> Engine<N, H> {
         if self.begin_fold(rt, alloc, folder)?.is_none() {
             return Ok(false);
         }
-        folder.run(alloc)?;
+        folder.run(rt, alloc, self)?;
         Ok(self.settle_fold(rt, alloc, folder))
     }
 
     /// Seals all that was accepted, at one moment: all locks are taken at once, those of the shards in rising order and
-    /// then the book's, as by a put of a batch that concerns every shard. Under them pointers are moved, at most nine
+    /// then the book's, as by a put of a batch that concerns every shard. Under them pointers are moved, some nine
     /// for each shard, and no cell is read or copied. It answers up to which place of the book all batches are sealed
     /// (`Folder::place`); None where there is nothing to fold. Where the folder has sealed something that isn't settled
     /// yet, that stays sealed, and nothing else is.
@@ -118,12 +114,10 @@ impl<N: Named, H: Ledger> Engine<N, H> {
         if let Some(place) = folder.place() {
             return Ok(Some(place));
         }
-        let mut shards = Vec::with_capacity(alloc, self.setup.shards() as usize)?;
-        let Some(SealedBook { place, fold }) = self.seal_from(rt, alloc, folder, &mut shards, 0)?
-        else {
+        let Some(place) = self.seal_from(rt, alloc, folder, 0)? else {
             return Ok(None);
         };
-        folder.take_in(place, shards, fold);
+        folder.take_in(place);
         Ok(Some(place))
     }
 
@@ -160,37 +154,98 @@ impl<N: Named, H: Ledger> Engine<N, H> {
         rt: &R,
         alloc: Global,
         folder: &Folder,
-        folds: &mut Vec<ShardFold>,
         s: u64,
-    ) -> Result<Option<SealedBook>, AllocError>
+    ) -> Result<Option<u64>, AllocError>
         requires place { s ≤ N.setup.shards }
-        requires room { vec_len folds.old + N.setup.shards ≤ vec_capacity folds.old + s }
-        ensures pushed { vec_len folds.new + s ≤ vec_len folds.old + N.setup.shards }
-        ensures capacity { vec_capacity folds.new ≡ vec_capacity folds.old }
     {
         if s == self.setup.shards() {
             return self.seal_book(rt, alloc);
         }
         let mut guard = self.shards[s as usize].lock(rt);
         let locked = &mut *guard;
-        let begun = locked.begin_fold(alloc, folder)?;
-        let is_sealed = begun.is_some();
-        if let Some(fold) = begun {
-            folds.push_reserved(fold);
+        if !locked.begin_fold(alloc, folder)? {
+            return Ok(None);
         }
-        let sealed = self.seal_from(rt, alloc, folder, folds, s + 1);
-        if is_sealed && !matches!(sealed, Ok(Some(_))) {
+        let sealed = self.seal_from(rt, alloc, folder, s + 1);
+        if !matches!(sealed, Ok(Some(_))) {
             locked.unseal(folder);
         }
         sealed
     }
 
     // Seals the book under its lock.
-    fn seal_book<R: Wait>(&self, rt: &R, alloc: Global) -> Result<Option<SealedBook>, AllocError> {
+    fn seal_book<R: Wait>(&self, rt: &R, alloc: Global) -> Result<Option<u64>, AllocError> {
         let mut locked = self.book.lock(rt);
         let sealed = locked.begin_fold(alloc);
         let _ = MutexGuard::unlock(locked);
         sealed
+    }
+
+    // What the book has sealed.
+    fn sealed_book<R: Wait>(&self, rt: &R) -> Option<SealedBook<N>> {
+        let locked = self.book.lock(rt);
+        let sealed = locked.sealed();
+        let _ = MutexGuard::unlock(locked);
+        sealed
+    }
+
+    // What shard s has sealed.
+    fn sealed_part<R: Wait>(&self, rt: &R, s: u64) -> Option<SealedPart<N>>
+        requires { s < N.setup.shards }
+    {
+        let guard = self.shards[s as usize].lock(rt);
+        let sealed = guard.sealed();
+        let _ = MutexGuard::unlock(guard);
+        sealed
+    }
+
+    // What shard s has sealed, checked against what the book has. None where they differ.
+    fn checked_part<R: Wait>(&self, rt: &R, s: u64, book: &SealedBook<N>) -> Option<CheckedPart<N>>
+        requires { s < N.setup.shards }
+        ensures { IfSome result (λ c. c ≡ checked_at s (place_of book.now) book.now.known) }
+    {
+        let part = self.sealed_part(rt, s)?;
+        if part.number() != s {
+            return None;
+        }
+        part.checked(book)
+    }
+
+    // What all shards have sealed, each checked.
+    fn checked_parts<R: Wait>(
+        &self,
+        rt: &R,
+        alloc: Global,
+        book: &SealedBook<N>,
+    ) -> Result<Vec<CheckedPart<N>>, FoldFault>
+        ensures { IfOk result (λ parts. parts.items ≡ checked N.setup.shards (place_of book.now) book.now.known) }
+    {
+        let k = self.setup.shards();
+        let mut parts = Vec::with_capacity(alloc, k as usize)?;
+        'shards: for s in 0..k {
+            let Some(part) = self.checked_part(rt, s, book) else {
+                return Err(FoldFault::RecordsDiffer { shard: s });
+            };
+            if parts.push(part).is_err() {
+                return Err(FoldFault::Memory);
+            }
+        }
+        Ok(parts)
+    }
+
+    /// Makes the new bases of what is sealed: all shards are checked before the first is made.
+    ///
+    /// # Errors
+    ///
+    /// As `Folder::run` says.
+    pub(crate) fn make_bases<R: Wait>(&self, rt: &R, alloc: Global) -> Result<(), FoldFault> {
+        let Some(book) = self.sealed_book(rt) else {
+            return Err(FoldFault::Memory);
+        };
+        let parts = self.checked_parts(rt, alloc, &book)?;
+        let pieces = pieces_of(alloc, &self.setup, &parts, &book)?;
+        book.fill(pieces);
+        Ok(())
     }
 
     // Settles shard s under its lock, and shows readers the shard with its new base.
@@ -204,7 +259,7 @@ impl<N: Named, H: Ledger> Engine<N, H> {
         requires { s < N.setup.shards }
     {
         let mut guard = self.shards[s as usize].lock(rt);
-        let record = guard.settle_fold(alloc, folder);
+        let record = guard.settle_fold(folder);
         let version = match &record {
             Some(_) => self.show_anew(rt, alloc, s, &guard),
             None => None,

@@ -1,60 +1,49 @@
-//! What one thread folds: what was sealed at one moment, and the sums that are left to be made of it.
-ghost use Rattle.std.specs.Prelude.{◌≡◌, ◌↔◌, ◌<◌, None, Some, OnOk, OnErr, IsTrue};
+//! Who folds: what was sealed is kept by the shards and the book, and one thread at a time makes the new bases of it.
+ghost use Rattle.std.specs.Prelude.{◌≡◌, ◌↔◌, None, Some, OnOk, OnErr, IsSome, IsTrue};
 ghost use Rattle.locked_engine.specs.Folders.{nothing_sealed, IsMade};
 
-use batch_store::{BookFold, ShardBase, ShardFold};
-use std::alloc::{AllocError, Global};
+use crate::engine::Engine;
+use crate::fault::FoldFault;
+use crate::names::Named;
+use std::alloc::Global;
 use std::marker::Model;
-use std::sync::Arc;
+use std::sync::Wait;
+use std::sync::ledger::Ledger;
 
-/// The folder of an engine: there is one, which `Engine::folder` hands out, so one thread at a time folds. It keeps what
-/// was sealed until that is settled, so a fold that found no memory goes on where it stopped.
+/// The folder of an engine: there is one, which `Engine::folder` hands out, so one thread at a time folds. What it has
+/// sealed stays sealed until that is settled, so a fold that found no memory goes on where it stopped.
 ///
-/// Contracts see up to which place of the book all batches are sealed, if any are, and how many sums are left to be made.
-/// While it has sealed something it keeps what was handed down and the batches from being freed.
+/// Contracts see up to which place of the book all batches are sealed, if any are, and whether all new bases are made.
 ///
 /// Where it is dropped before what it has sealed is settled, nothing is lost, and the engine folds no more: nor does one
 /// that is opened with what this one was closed to, before that was folded itself (`PlainEngine::fold`).
 #[derive(Drop)]
 pub struct Folder {
     place: Option<u64>,
-    // What is left to be added up, of the shards and of the book.
-    shards: Vec<ShardFold>,
-    book: Option<Arc<BookFold>>,
-    // The shards' bases that were made, which are to be the pieces of the book's.
-    made: Vec<ShardBase>,
+    made: bool,
 }
 
 impl Model for Folder {
-    ghost use Rattle.std.specs.Prelude.{vec_len};
-    ghost use Rattle.locked_engine.specs.Folders.{Folding, coded_folding, sealed_to, Leaves, sums_left};
+    ghost use Rattle.std.specs.Prelude.{◌≡◌, None, false};
+    ghost use Rattle.locked_engine.specs.Folders.{Folding, coded_folding, sealed_to};
 
     ghost Value = { Folding };
 
     ghost coded = { coded_folding };
 
-    ghost view = { λ f. sealed_to f.place (sums_left (vec_len f.shards) f.book) };
+    ghost view = { λ f. sealed_to f.place f.made };
 
-    ghost invariant = { λ f. Leaves f.place (vec_len f.shards) f.book };
-}
-
-// Makes the sum of a shard, and appends its base to those that were made. Where a growth was refused, none is appended.
-fn push_made(alloc: Global, fold: &ShardFold, made: &mut Vec<ShardBase>) -> Result<(), AllocError> {
-    made.reserve(1)?;
-    made.push_reserved(fold.run(alloc)?);
-    Ok(())
+    ghost invariant = { λ f. f.place ≡ None → f.made ≡ false };
 }
 
 impl Folder {
     // One that has sealed nothing. It takes no memory.
-    pub(crate) fn new(alloc: Global) -> Folder
+    pub(crate) fn new() -> Folder
         ensures { result ≡ nothing_sealed }
     {
         Folder {
             place: None,
-            shards: Vec::new(alloc),
-            book: None,
-            made: Vec::new(alloc),
+            made: false,
         }
     }
 
@@ -67,20 +56,19 @@ impl Folder {
         self.place
     }
 
-    /// Whether something is sealed and all its sums are made, so that it can be settled. Constant time.
+    /// Whether something is sealed and all its bases are made, so that it can be settled. Constant time.
     pub fn is_made(&self) -> bool
         ensures { IsTrue result ↔ IsMade self.now }
     {
-        self.place.is_some() && self.shards.is_empty() && self.book.is_none()
+        self.place.is_some() && self.made
     }
 
-    // Takes in what was sealed up to a place.
-    pub(crate) fn take_in(&mut self, place: u64, shards: Vec<ShardFold>, book: Arc<BookFold>)
+    // Takes in up to which place all was sealed.
+    pub(crate) fn take_in(&mut self, place: u64)
         ensures { self.new.place ≡ Some place }
     {
         self.place = Some(place);
-        self.shards = shards;
-        self.book = Some(book);
+        self.made = false;
     }
 
     // Lets go of what was settled.
@@ -88,33 +76,33 @@ impl Folder {
         ensures { self.new ≡ nothing_sealed }
     {
         self.place = None;
-        self.shards.clear();
-        self.book = None;
+        self.made = false;
     }
 
-    /// Makes the sums that are left: of each shard's layers, and of the book's base with the batches, whose pieces are those
-    /// of the shards. Each is put where its shard or the book finds it, and what it was made of is let go of. It takes the
-    /// time of two sums of all that the engine holds and the memory of one, waits for nobody, and nobody waits for it.
+    /// Makes the new bases of what was sealed: each shard's is the sum of what it handed down, and the book's pieces
+    /// are those of the shards. First what each shard has sealed is checked, by client and number, against what the
+    /// book has, and how many batches are in its base. Each base is put where its shard or the book finds it. It takes
+    /// the time of a sum of all that the engine holds and its memory, and waits for nobody, but for each lock for as
+    /// long as a few pointers are copied.
     ///
     /// # Errors
     ///
-    /// A growth was refused. What was made stays, and the next call goes on.
-    pub fn run(&mut self, alloc: Global) -> Result<(), AllocError>
+    /// - `Memory`: a growth was refused. What was made stays, and the next call goes on.
+    /// - `RecordsDiffer`: a shard and the book don't belong together. No base is made.
+    pub fn run<N: Named, H: Ledger, R: Wait>(
+        &mut self,
+        rt: &R,
+        alloc: Global,
+        engine: &Engine<N, H>,
+    ) -> Result<(), FoldFault>
         ensures place { self.new.place ≡ self.old.place }
-        ensures ok { OnOk result (self.new.left ≡ 0) }
-        ensures err { OnErr result (0 < self.new.left) }
+        ensures ok { OnOk result (IsSome self.old.place → IsMade self.new) }
+        ensures err { OnErr result (self.new ≡ self.old) }
     {
-        while let Some(fold) = self.shards.pop() {
-            if push_made(alloc, &fold, &mut self.made).is_err() {
-                self.shards.push_reserved(fold);
-                return Err(AllocError);
-            }
+        if self.place.is_some() && !self.made {
+            engine.make_bases(rt, alloc)?;
+            self.made = true;
         }
-        if let Some(fold) = &self.book {
-            fold.run(alloc, &self.made)?;
-        }
-        self.made.clear();
-        self.book = None;
         Ok(())
     }
 }

@@ -15,7 +15,9 @@
 //!
 //! A running engine is folded by one thread at a time, by its `Folder`: `Engine::begin_fold` seals all that was accepted
 //! at a moment at which it holds every lock, `Folder::run` adds it up without a lock, and `Engine::settle_fold`
-//! exchanges pointers. Then the first batches are in the bases, and their cells are let go of.
+//! exchanges pointers. Then the first batches are in the bases, and their cells are let go of. Each shard keeps how
+//! many of the accepted batches are in its base, as the book does; so what the shards sealed is checked against what
+//! the book sealed by clients and numbers, and the shards' new bases are the pieces of the book's: no cell is compared.
 //!
 //! What a seat is shown of the book is a beginning of one history, to which only the book's lock adds (`History`). So
 //! whatever a put was answered, the book has its batch where the answer says so. A seat also knows such a beginning batch
@@ -41,10 +43,12 @@ mod known;
 mod locked_book;
 mod locked_shard;
 mod look;
+mod made;
 mod names;
 mod open;
 mod put;
 mod queue;
+mod sealed;
 mod seat;
 mod shard_version;
 mod shown;
@@ -53,7 +57,7 @@ mod version;
 pub use close::CloseFault;
 pub use counted::{accepted_batches_stay, answers_count_once};
 pub use engine::Engine;
-pub use fault::OpenFault;
+pub use fault::{FoldFault, OpenFault};
 pub use fold::Backlog;
 pub use folder::Folder;
 pub use names::{Named, Names};

@@ -1,5 +1,5 @@
 //! What stands behind the book's lock.
-ghost use Rattle.std.specs.Prelude.{◌≡◌, ℕ, None, false, IfSome, ◌+◌, ◌≤◌, ◌<◌, ◌++◌, List, [], ◌∷◌, IfOk, IfErr, IsSome, IsSomeAnd, OnOk, OnErr, Ok, Some};
+ghost use Rattle.std.specs.Prelude.{◌≡◌, ℕ, None, IfSome, ◌+◌, ◌≤◌, ◌<◌, ◌++◌, List, [], ◌∷◌, IfOk, IfErr, IsSome, IsSomeAnd, OnOk, OnErr, Ok, Some};
 ghost use Rattle.batch_store.specs.declared.verdict.Entry.{Entry};
 ghost use Rattle.std.specs.Prelude.{drop, length, vec_len, vec_capacity};
 ghost use Rattle.std.specs.Bool.{OnTrue, OnFalse};
@@ -19,11 +19,12 @@ ghost use Rattle.locked_engine.specs.Queues.{Follows};
 ghost use Rattle.locked_engine.specs.Versions.{IsVersion, entry_verdict};
 
 use crate::fault::NotAdmitted;
-use crate::fold::{Backlog, SealedBook};
+use crate::fold::Backlog;
 use crate::history::History;
 use crate::known::Known;
 use crate::names::Named;
 use crate::queue::NoneShared;
+use crate::sealed::SealedBook;
 use crate::version::{NextPlace, NextVersion, Version, VersionWriter, entry_of};
 use batch_store::{Batch, Book, BookList, Kept, ReleasedBatches, Verdict};
 use crossbeam_utils::rule::Unruled;
@@ -52,15 +53,13 @@ where
     writer: Option<VersionWriter<N>>,
     // How many cells the batches have together that are neither folded nor sealed, for `backlog`.
     cells: u64,
-    // Whether anything was folded since the engine was opened.
-    rebased: bool,
 }
 
 impl<N: Named, H: Ledger> Model for LockedBook<N, H>
 where
     Version<N>: Absorb<NextVersion<N>, State = ()>,
 {
-    ghost use Rattle.std.specs.Prelude.{◌≡◌, [], drop, IsSomeAnd, false};
+    ghost use Rattle.std.specs.Prelude.{◌≡◌, [], drop, IsSomeAnd};
     ghost use Rattle.batch_store.specs.Accepted.{entries_in, total_in};
     ghost use Rattle.batch_store.specs.Books.{Register, coded_register};
     ghost use Rattle.locked_engine.specs.Opened.{HasFolded};
@@ -73,7 +72,7 @@ where
 
     ghost invariant = { λ d. (d.book.setup ≡ N.setup) × HasFolded N.opened d.history.batches d.book.state
         × (d.first.total ≡ total_in d.book.state) × (d.second.total ≡ total_in d.book.state)
-        × (d.history.entries ≡ entries_in d.book.state) × (d.rebased ≡ false → d.book.state.base ≡ N.opened.base)
+        × (d.history.entries ≡ entries_in d.book.state)
         × IsSomeAnd d.writer (λ w. (w.desk.shown.value ≡ entries_in d.book.state) × (drop w.behind w.log.items ≡ [])) };
 }
 
@@ -231,7 +230,6 @@ where
             history,
             writer: Some(writer),
             cells,
-            rebased: false,
         }
     }
 
@@ -261,7 +259,6 @@ where
             history,
             writer,
             cells: _,
-            rebased: _,
         } = self;
         if let Some(writer) = writer {
             writer.take(rt);
@@ -274,11 +271,11 @@ where
         (book, first, second)
     }
 
-    /// Whether this holds, or anything was folded since the engine was opened.
-    pub fn is_rebased_or(&self, other: bool) -> bool
-        ensures { result ≡ false → (other ≡ false) × (self.now.state.base ≡ N.opened.base) }
+    /// How many of its batches are folded.
+    pub fn folded_count(&self) -> u64
+        ensures { result ≡ length self.now.state.folded }
     {
-        self.rebased || other
+        self.book.folded()
     }
 
     /// What is known of its batches.
@@ -413,17 +410,25 @@ where
     /// # Errors
     ///
     /// A growth was refused.
-    pub fn begin_fold(&mut self, alloc: Global) -> Result<Option<SealedBook>, AllocError>
+    pub fn begin_fold(&mut self, alloc: Global) -> Result<Option<u64>, AllocError>
         ensures { self.new.state ≡ self.old.state }
     {
-        let Some(fold) = self.book.begin_fold(alloc, u64::MAX)? else {
+        if !self.book.begin_fold(alloc, u64::MAX)? {
             return Ok(None);
-        };
+        }
         self.cells = 0;
-        Ok(Some(SealedBook {
-            place: self.book.len(),
-            fold,
-        }))
+        Ok(Some(self.book.len()))
+    }
+
+    /// What is sealed, shared, for whoever makes the new base; None where nothing is, or a pointer can't be copied.
+    pub fn sealed(&self) -> Option<SealedBook<N>> {
+        let fold = self.book.sealed()?;
+        // They tell that no client and number stands twice, and how many batches there may be.
+        let _status = self.history.status();
+        let _count = self.book.len();
+        let folded = self.book.folded();
+        let place = folded + fold.len() as u64;
+        Some(SealedBook::of(fold, folded, place, self.history.known()))
     }
 
     /// Folds the batches that were sealed, where their base was made (`Book::settle_fold`), and gives what the book
@@ -435,7 +440,6 @@ where
             × (self.new.state ≡ folded_to m self.old.state)) }
     {
         let released = self.book.settle_fold()?;
-        self.rebased = true;
         Some(released)
     }
 
@@ -513,7 +517,6 @@ where
             history,
             writer,
             cells,
-            rebased: _,
         } = self;
         if !offer(rt, writer, offered) {
             return Err(NotAdmitted::Refused(PutFault::Memory));

@@ -1,5 +1,5 @@
 //! Opening: an engine of one thread becomes one of several, with its seats.
-ghost use Rattle.std.specs.Prelude.{◌≡◌, ◌+◌, ◌≤◌, ◌<◌, IfOk, IfErr, [], vec_len, vec_capacity};
+ghost use Rattle.std.specs.Prelude.{◌≡◌, ◌+◌, ◌≤◌, ◌<◌, IfOk, IfErr, [], length, vec_len, vec_capacity};
 ghost use Rattle.batch_store.specs.Accepted.{entries_in, total_in};
 ghost use Rattle.plain_engine.specs.Standing.{HaveSetup, shards_total};
 ghost use Rattle.plain_engine.specs.Known.{AllFrom, AreBased};
@@ -50,6 +50,7 @@ impl<N: Named, H: Ledger> Engine<N, H> {
             return Err((plain, names, AllocError));
         };
         let status = plain.status();
+        let folded = plain.folded();
         let version: Version<N> = names.version(status);
         let Ok(writer) = VersionWriter::new(alloc, version.again(), version.again(), count) else {
             return Err((plain, names, AllocError));
@@ -63,7 +64,7 @@ impl<N: Named, H: Ledger> Engine<N, H> {
         let total = book.total();
         first_number.add(&mut first, total);
         second_number.add(&mut second, total);
-        lock_all::<N, H>(list, &mut shards, &mut second, &known);
+        lock_all::<N, H>(list, &mut shards, &mut second, &known, folded);
         make_seats::<N, H>(
             count,
             total,
@@ -118,11 +119,13 @@ fn lock_all<N: Named, H: Ledger>(
     shards: &mut Vec<Mutex<LockedShard<N, H>>>,
     second: &mut Share<H>,
     known: &Known<N>,
+    folded: u64,
 )
     requires room { vec_len shards.old + vec_len list ≤ vec_capacity shards.old }
     requires made { HaveSetup N.setup list.items }
     requires based { AreBased N.opened N.setup.shards list.items }
     requires from { AllFrom known.now list.items }
+    requires folded { folded ≡ length N.opened.folded }
     requires parts { vec_len list < second.old.parts }
     requires amount { second.old.amount ≡ shards_total list.items }
     ensures count { vec_len shards.new ≡ vec_len shards.old + vec_len list }
@@ -131,7 +134,7 @@ fn lock_all<N: Named, H: Ledger>(
 {
     'shards: for shard in list {
         let held = second.split_off(1, shard.total());
-        shards.push_reserved(Mutex::new(LockedShard::new(shard, held, known.again())));
+        shards.push_reserved(Mutex::new(LockedShard::new(shard, held, known.again(), folded)));
     }
 }
 

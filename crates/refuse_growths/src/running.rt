@@ -18,7 +18,7 @@ pub fn show_fold<N: Named, H: Ledger, R: Wait + Print>(
 ) -> Result<(), Stop>
     requires { N.log ≡ None }
 {
-    let Some(mut folder) = engine.folder(alloc) else {
+    let Some(mut folder) = engine.folder() else {
         return Err(Stop::Fault);
     };
     let told = show_steps(rt, alloc, engine, seat, &mut folder);
@@ -81,7 +81,7 @@ fn fold_at_last<N: Named, H: Ledger, R: Wait + Print>(
     engine: &Engine<N, H>,
     seat: &mut Seat<N, H>,
     folder: &mut Folder,
-) -> Result<bool, AllocError>
+) -> Result<bool, Stop>
     requires { N.log ≡ None }
 {
     match engine.fold(rt, alloc, folder) {
@@ -89,7 +89,8 @@ fn fold_at_last<N: Named, H: Ledger, R: Wait + Print>(
         Err(_) => {
             say(rt, "fold of the engine refused");
             show_status(rt, engine, seat);
-            engine.fold(rt, alloc, folder)
+            let folds = engine.fold(rt, alloc, folder)?;
+            Ok(folds)
         }
     }
 }

@@ -1,6 +1,7 @@
 //! Why a scenario goes no further.
 
 use batch_store::SetupFault;
+use locked_engine::FoldFault;
 use std::alloc::AllocError;
 
 /// Why a scenario goes no further.
@@ -15,6 +16,15 @@ pub enum Stop {
 impl From<AllocError> for Stop {
     fn from(_error: AllocError) -> Stop {
         Stop::SetUp
+    }
+}
+
+impl From<FoldFault> for Stop {
+    fn from(fault: FoldFault) -> Stop {
+        match fault {
+            FoldFault::Memory => Stop::SetUp,
+            FoldFault::RecordsDiffer { shard: _ } => Stop::Fault,
+        }
     }
 }
 

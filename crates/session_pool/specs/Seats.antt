@@ -191,4 +191,4 @@ SeatGives v opened saved synced failed full s (fold (Err no_fold.Memory)) t =
 SeatGives v opened saved synced failed full s (fold (Err no_fold.LogFailed)) t =
     (t.seat ≡ s.seat) × Grows s.known t.known × IsLogged t.known × failed
 SeatGives v opened saved synced failed full s (fold (Err no_fold.RecordsDiffer)) t =
-    (t.seat ≡ s.seat) × Grows s.known t.known × IsLogged t.known
+    (t.seat ≡ s.seat) × Grows s.known t.known

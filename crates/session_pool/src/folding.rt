@@ -4,7 +4,7 @@ ghost use Rattle.session_pool.specs.Seats.{Grows, IsLogged};
 
 use crate::saver::Saver;
 use crate::session_log::SessionLog;
-use locked_engine::{Backlog, Engine, Folder, Named};
+use locked_engine::{Backlog, Engine, FoldFault, Folder, Named};
 use log_desk::{Log, LogDesk};
 use std::alloc::Global;
 use std::mem;
@@ -56,7 +56,6 @@ fn fold_once<N: Named, H: Ledger, L: Log, R: Wait>(
     ensures logged { is_some log.new ≡ is_some N.log }
     ensures grows { Grows log.old log.new }
     ensures failed { result ≡ Err FoldRefusal.LogFailed → IsLogged log.new × L.has_failed }
-    ensures differ { result ≡ Err FoldRefusal.RecordsDiffer → IsLogged log.new }
 {
     let Ok(begun) = engine.begin_fold(rt, alloc, folder) else {
         return Err(FoldRefusal::Memory);
@@ -67,8 +66,10 @@ fn fold_once<N: Named, H: Ledger, L: Log, R: Wait>(
     if let Err(refusal) = make_durable(rt, engine, log, place) {
         return Err(refusal);
     }
-    if folder.run(alloc).is_err() {
-        return Err(FoldRefusal::Memory);
+    match folder.run(rt, alloc, engine) {
+        Ok(()) => {}
+        Err(FoldFault::Memory) => return Err(FoldRefusal::Memory),
+        Err(FoldFault::RecordsDiffer { shard: _ }) => return Err(FoldRefusal::RecordsDiffer),
     }
     let desk = log.as_ref().map(|log| log.desk());
     if saver.settle_fold(rt, alloc, engine, desk, folder) || log.is_none() {
@@ -122,7 +123,7 @@ impl Folding {
         engine: &Engine<N, H>,
     ) {
         let mut folder = self.folder.lock(rt);
-        *folder = engine.folder(alloc);
+        *folder = engine.folder();
     }
 
     /// Drops the folder, and what it has sealed, which stays accepted and unfolded.
@@ -146,11 +147,10 @@ impl Folding {
         ensures logged { is_some log.new ≡ is_some N.log }
         ensures grows { Grows log.old log.new }
         ensures failed { result ≡ Err FoldRefusal.LogFailed → IsLogged log.new × L.has_failed }
-        ensures differ { result ≡ Err FoldRefusal.RecordsDiffer → IsLogged log.new }
     {
         let mut guard = self.folder.lock(rt);
         if guard.is_none() {
-            *guard = engine.folder(alloc);
+            *guard = engine.folder();
         }
         let Some(folder) = &mut *guard else {
             return Ok(());

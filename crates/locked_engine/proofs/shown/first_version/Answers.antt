@@ -1,5 +1,5 @@
-use Rattle.std.proofs.Common.{[], ◌∙◌, sym}
-use Rattle.locked_engine.proofs.FoldedLaws.{based_alone}
+use Rattle.std.proofs.Common.{◌∙◌, sym}
+use Rattle.locked_engine.proofs.FoldedLaws.{since_based}
 use Rattle.locked_engine.proofs.ShownLaws.{setup_at, based_at}
 use Rattle.locked_engine.proofs.shown.first_version.Goals as goal
 
@@ -15,4 +15,4 @@ of_shard-requires-clause-based g c =
     let based = based_at engine.setup g.N.Named.setup engine.book.state g.N.Named.opened 0 c.args.s engine.shards
     c.in-Some.shard.now c.setup-setup.ensures.kept.keeps.stand (sym c.in-Some.ensures) c.requires.setup
     c.requires.opened in
-    ([], based_alone g.N.Named.opened g.N.Named.setup.shards c.in-Some.shard.now based)
+    since_based g.N.Named.opened g.N.Named.setup.shards c.in-Some.shard.now based

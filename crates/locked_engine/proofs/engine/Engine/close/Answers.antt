@@ -5,7 +5,10 @@ use Rattle.batch_store.specs.Books.{Register}
 use Rattle.locked_engine.specs.Told.{AreShown}
 use Rattle.plain_engine.proofs.KnownLaws.{all_later}
 use Rattle.locked_engine.proofs.ToldLaws.{shown_later}
-use Rattle.locked_engine.proofs.MomentLaws.{based_on}
+use Rattle.locked_engine.proofs.FoldedLaws.{all_folded_later, either_apart, folded_based}
+use Rattle.plain_engine.specs.Known.{AreBased}
+use Rattle.std.proofs.Common.{ℕ, length}
+use Rattle.locked_engine.specs.Moments.{IsElsewhere}
 use Rattle.locked_engine.specs.Opened.{HasFolded}
 use Rattle.locked_engine.proofs.GivenLaws.{known_later}
 use Rattle.locked_engine.proofs.PrefixLaws.{prefix_trans}
@@ -35,8 +38,8 @@ returns-clause-differ g c = λ shards book e.
     let parts = c.gather-first.ensures.parts in
     let all : c.gather-first.result.0.parts ≡ g.N.Ledger.parts =
     omega (arith, parts.0, c.if-len-self.false, c.len.ensures, named.1, named.4) in
-    let both : c.unlock_all-shards_rebased.new.second.parts ≡ g.H.Ledger.parts =
-    omega (arith, parts.1, c.unlock_all-shards_rebased.ensures.parts, c.if-len-self.false, c.len.ensures, named.1, named.2, named.5) in
+    let both : c.unlock_all-is_folded.new.second.parts ≡ g.H.Ledger.parts =
+    omega (arith, parts.1, c.unlock_all-is_folded.ensures.parts, c.if-len-self.false, c.len.ensures, named.1, named.2, named.5) in
     let same_shards : c.in-Err.shards ≡ shards = cc in
     let same_book : c.in-Err.book ≡ book = cc in
     let back = c.in-Err.ensures.err in
@@ -44,7 +47,7 @@ returns-clause-differ g c = λ shards book e.
     rw (← same_shards, ← same_book, back.0, back.1) (
       omega (
         arith,
-        c.unlock_all-shards_rebased.ensures.amount,
+        c.unlock_all-is_folded.ensures.amount,
         c.gather-first.ensures.balanced,
         c.audit-2.ensures.whole both,
         c.end-book.ensures.second,
@@ -102,34 +105,47 @@ returns-clause-opened_apart g c = λ shards book e.
     subst (λ (w : Register). IsPrefix (entries_in g.N.Named.opened) (entries_in w.state)) same_book
     c.end-book.ensures.opened
 
--- with records that agree there would be an engine
+-- where the numbers are the same there would be an engine with records that agree
 pub returns-clause-apart : goal.returns-clause-apart
-returns-clause-apart g c = λ shards book e both.
+returns-clause-apart g c = λ shards book e.
     let same_shards : c.in-Err.shards ≡ shards = cc in
     let same_book : c.in-Err.book ≡ book = cc in
     let back = c.in-Err.ensures.err in
     let named = c.self.invariant in
-    let moved = rw (← same_shards, ← same_book, back.0, back.1, ← named.0) at both in
-    let told = c.in-Err.ensures.exactly.1 moved in
-    cc told
+    let number = c.folded_count-folded.ensures ∙ ap (λ (w : Register). length w.state.folded) (sym c.end-book.ensures.book) in
+    either_apart c.unlock_all-is_folded.result
+    (λ are both'.
+    let moved = rw (← same_shards, ← same_book, back.0, back.1, ← named.0) at both' in
+    let told = (c.in-Err.ensures.exactly are).1 moved in
+    cc told)
+    (λ apart.
+    rw (← same_shards, ← same_book, back.0, back.1)
+    (subst (λ (n : ℕ). IsElsewhere g.N.Named.setup g.N.Named.opened n c.unlock_all-is_folded.new.shards.items) number
+    (c.unlock_all-is_folded.ensures.differ apart)))
 
--- where nothing was folded the book has the base with which the engine was opened; and what is known is of its batches,
--- and of those before them that it has folded
-pub join_known-requires-clause-based : goal.join_known-requires-clause-based
-join_known-requires-clause-based g c = λ never.
-    let told = c.is_rebased_or-rebased.ensures never in
-    based_on g.N.Named.opened c.end-book.result.0.state g.N.Named.setup.shards _ c.unlock_all-shards_rebased.new.shards.items
-    (ap (λ (w : Register). w.state.base) c.end-book.ensures.book ∙ told.1)
-    (ap (λ (v : Setting). v.shards) c.self.invariant.0) (c.unlock_all-shards_rebased.ensures.based told.0)
+-- where the numbers are the same the bases are; and what is known is of its batches, and of those before them that it
+-- has folded
+pub joined-requires-clause-based : goal.joined-requires-clause-based
+joined-requires-clause-based g c = λ are.
+    let told = c.end-book.ensures.given in
+    let v = g.N.Named.setup in
+    let o = g.N.Named.opened in
+    let known = c.unlock_all-is_folded.new.known in
+    let all = prefix_trans known c.learn.new.self told.0 c.learn.ensures.later told.2 in
+    let number = c.folded_count-folded.ensures ∙ ap (λ (w : Register). length w.state.folded) (sym c.end-book.ensures.book) in
+    let shards = c.unlock_all-is_folded.new.shards.items in
+    subst (λ (w : Setting). AreBased c.end-book.result.0.state w.shards shards) (sym c.self.invariant.0)
+    (folded_based v o told.0 c.end-book.result.0.state c.folded_count-folded.result shards told.1 number
+    (all_folded_later v o known told.0 c.folded_count-folded.result shards all (c.unlock_all-is_folded.ensures.at are)))
 
-pub join_known-requires-clause-known : goal.join_known-requires-clause-known
-join_known-requires-clause-known g c =
+pub joined-requires-clause-known : goal.joined-requires-clause-known
+joined-requires-clause-known g c =
     let told = c.end-book.ensures.known in (
       told.0,
       told.1,
       all_later c.learn.new.self (told.0 ++ c.end-book.result.0.state.list)
-          c.unlock_all-shards_rebased.new.shards.items told.2
-          (all_later c.unlock_all-shards_rebased.new.known c.learn.new.self
-          c.unlock_all-shards_rebased.new.shards.items c.learn.ensures.later
-          c.unlock_all-shards_rebased.ensures.from),
+          c.unlock_all-is_folded.new.shards.items told.2
+          (all_later c.unlock_all-is_folded.new.known c.learn.new.self
+          c.unlock_all-is_folded.new.shards.items c.learn.ensures.later
+          c.unlock_all-is_folded.ensures.from),
     )

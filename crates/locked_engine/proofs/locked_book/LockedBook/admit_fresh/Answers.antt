@@ -1,7 +1,7 @@
 use Rattle.std.specs.Prelude.{IsSomeAnd, drop}
 use Rattle.std.proofs.Common.{rules, ◌≡◌, [], ◌∷◌, ◌++◌, sym, ◌∙◌, ap, subst, List}
 use Rattle.std.specs.Arc.{arc_value}
-use Rattle.batch_store.specs.Accepted.{Accepted, entries_in, count_in, with_batch}
+use Rattle.batch_store.specs.Accepted.{entries_in, count_in, with_batch}
 use Rattle.batch_store.specs.declared.verdict.Entry.{Entry}
 use Rattle.batch_store.specs.declared.verdict.Kept.{Kept}
 use Rattle.batch_store.specs.Batches.{Submission, entry_of}
@@ -60,7 +60,6 @@ invariant_of-self-2 g c =
       search rules,
       search rules,
       entries,
-      λ kept. ap (λ (a : Accepted). a.base) state ∙ c.self.invariant.5 kept,
       subst (λ (es : List Entry). IsSomeAnd c.show_all.new.held
           (λ w. (w.desk.shown.value ≡ es) × (drop w.behind w.log.items ≡ [])))
           (c.version-version.ensures ∙ entries) c.show_all.ensures,

@@ -1,5 +1,3 @@
-use Rattle.std.proofs.Common.{ap}
-use Rattle.batch_store.specs.Accepted.{Accepted}
 use Rattle.locked_engine.proofs.FoldedLaws.{folded_none}
 use Rattle.locked_engine.proofs.locked_book.LockedBook.make.Goals as goal
 
@@ -11,6 +9,5 @@ invariant_of-result g c = (
   c.requires.first,
   c.requires.second,
   c.requires.history,
-  λ _. ap (λ (a : Accepted). a.base) c.requires.opened,
   (c.requires.published, c.requires.pending),
 )

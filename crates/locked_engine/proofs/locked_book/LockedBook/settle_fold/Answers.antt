@@ -15,7 +15,6 @@ invariant_of-self-2 g c =
       c.self.invariant.2 ∙ sym (total_to told.0 old new told.2),
       c.self.invariant.3 ∙ sym (total_to told.0 old new told.2),
       c.self.invariant.4 ∙ sym same,
-      λ e. absurd (cc e),
       subst (λ es. IsSomeAnd c.self.inside.writer (λ w. (w.desk.shown.value ≡ es) × (drop w.behind w.log.items ≡ [])))
-          (sym same) c.self.invariant.6,
+          (sym same) c.self.invariant.5,
     )
