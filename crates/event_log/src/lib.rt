@@ -10,6 +10,7 @@ mod error_lines;
 mod event;
 mod file_sizes;
 mod log;
+mod reading;
 mod stamp;
 mod teller;
 mod telling;

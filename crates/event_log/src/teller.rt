@@ -4,6 +4,7 @@ use crate::error_lines::ErrorLines;
 use crate::event::{Event, FailedCall, Unsaved};
 use crate::file_sizes::FileSizes;
 use crate::log::{CODES, EventLog, News};
+use crate::reading::Reading;
 use crate::stamp::{Seconds, Stamp, since};
 use crate::waiting::{Waiting, Waits};
 use std::io;
@@ -20,11 +21,10 @@ pub struct Teller<'a, R: Wait + Clock + Eprint + FileSizes> {
     rt: &'a R,
     log: &'a EventLog,
     lines: ErrorLines<'a, R>,
-    loading: Option<Instant>,
-    is_loading: bool,
-    is_empty: bool,
-    reading: Option<Instant>,
-    is_reading: bool,
+    // Of the snapshot, which may be loaded or missing, and of the log.
+    loading: Reading,
+    is_loaded: bool,
+    reading: Reading,
     looked: Option<Instant>,
     counted: Option<Instant>,
     waiting: Waiting,
@@ -37,11 +37,9 @@ impl<'a, R: Wait + Clock + Eprint + FileSizes> Teller<'a, R> {
             rt,
             log,
             lines: ErrorLines::new(rt),
-            loading: now,
-            is_loading: false,
-            is_empty: false,
-            reading: now,
-            is_reading: false,
+            loading: Reading::new(),
+            is_loaded: false,
+            reading: Reading::new(),
             looked: now,
             counted: now,
             waiting: Waiting::new(),
@@ -73,22 +71,23 @@ impl<'a, R: Wait + Clock + Eprint + FileSizes> Teller<'a, R> {
         let now = self.now();
         match event {
             Event::Loading => {
-                self.loading = Instant::now(self.rt).ok();
-                self.is_loading = true;
+                self.loading.begin(self.rt);
+                self.is_loaded = true;
             }
             Event::NoSnapshot => {
-                self.is_empty = true;
+                self.loading.end();
+                self.is_loaded = false;
                 let path = self.log.snapshot_path();
                 self.lines
                     .say(format_args!("{now} no-snapshot path={path:?}"));
             }
             Event::ReadingLog => {
-                self.reading = Instant::now(self.rt).ok();
-                self.is_reading = true;
+                self.loading.end();
+                self.reading.begin(self.rt);
             }
             Event::LogRead { batches, pages } => self.tell_log(batches, pages),
             Event::LogBegun => {
-                self.is_reading = false;
+                self.reading.end();
                 let path = self.log.log_path();
                 self.lines
                     .say(format_args!("{now} log-begun path={path:?}"));
@@ -107,21 +106,20 @@ impl<'a, R: Wait + Clock + Eprint + FileSizes> Teller<'a, R> {
 
     fn tell_start(&mut self, batches: u64, total: u64) {
         let now = self.now();
-        let is_loaded = self.is_loading && !self.is_empty;
-        self.is_loading = false;
-        self.is_reading = false;
-        if !is_loaded {
+        self.loading.end();
+        self.reading.end();
+        if !self.is_loaded {
             self.lines.say(format_args!("{now} started batches={batches} total={total}"));
             return;
         }
-        let took = Seconds(since(self.rt, self.loading));
+        let took = Seconds(self.loading.passed(self.rt));
         self.lines.say(format_args!("{now} loaded batches={batches} total={total} seconds={took}"));
     }
 
     fn tell_log(&mut self, batches: u64, pages: u64) {
         let now = self.now();
-        let took = Seconds(since(self.rt, self.reading));
-        self.is_reading = false;
+        let took = Seconds(self.reading.passed(self.rt));
+        self.reading.end();
         self.lines.say(format_args!(
             "{now} log-read batches={batches} pages={pages} seconds={took}"
         ));
@@ -174,17 +172,16 @@ impl<'a, R: Wait + Clock + Eprint + FileSizes> Teller<'a, R> {
         ));
     }
 
-    // Tells that a file is still read.
+    // Tells that a file is still read, where that is due.
     fn tell_reading(&mut self) {
+        let log = self.reading.due(self.rt);
+        let snapshot = self.loading.due(self.rt);
         let now = self.now();
-        let (path, begun) = if self.is_reading {
-            (self.log.log_path(), self.reading)
-        } else if self.is_loading {
-            (self.log.snapshot_path(), self.loading)
-        } else {
-            return;
+        let (path, passed) = match (log, snapshot) {
+            (Some(passed), _) => (self.log.log_path(), Seconds(passed)),
+            (None, Some(passed)) => (self.log.snapshot_path(), Seconds(passed)),
+            (None, None) => return,
         };
-        let passed = Seconds(since(self.rt, begun));
         self.lines.say(format_args!("{now} loading path={path:?} seconds={passed}"));
     }
 

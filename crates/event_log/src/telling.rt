@@ -12,7 +12,7 @@ use std::time::{Clock, Duration};
 ///
 /// Each line is `time event key=value ..`, with the time in UTC:
 ///
-/// - `loading path seconds`: a snapshot is being loaded, or a log read, once a second;
+/// - `loading path seconds`: a snapshot is being loaded, or a log read, after pauses of 1, 2, 4 and 8 seconds;
 /// - `log-read batches pages seconds`, or `log-begun path`;
 /// - `loaded batches total seconds`, or `no-snapshot path` and `started batches total`;
 /// - `no-worker connections seconds`: connections wait for a worker, one of them for more than a second: as it is

@@ -1,84 +1,22 @@
 //! `fold`: reads a snapshot, folds all its batches, and saves it again.
-ghost use Rattle.std.specs.Prelude.{◌≡◌, ◌+◌, ◌<◌, ◌^◌, ◌⊎◌, ◌++◌, Ok, Err, OnOk, IfOk, IfErr};
-ghost use Rattle.std.specs.Arc.{arc_value};
+ghost use Rattle.std.specs.Prelude.{◌≡◌, ◌+◌, ◌<◌, ◌^◌, ◌⊎◌, Ok, Err, OnOk, IfOk, IfErr};
 ghost use Rattle.byte_io.specs.Writing.{HasTaken, HasStopped};
 ghost use Rattle.byte_io.specs.declared.fault.WriteFault.{WriteFault};
-ghost use Rattle.hyper_matrix.specs.Cells.{built_of};
-ghost use Rattle.hyper_matrix.specs.Matrix.{matrix};
 ghost use Rattle.batch_store.specs.Accepted.{count_in, total_in};
-ghost use Rattle.batch_store.specs.Batches.{entries_of, values};
-ghost use Rattle.batch_store.specs.Books.{AreAccepted, accepted_in};
-ghost use Rattle.snap_file.specs.Snapshots.{HasBase, Saved};
+ghost use Rattle.batch_store.specs.Books.{accepted_in};
+ghost use Rattle.snap_file.specs.Snapshots.{Saved};
 ghost use Rattle.snap_report.specs.Folds.{fold_line, LeavesLine};
-ghost use Rattle.snap_report.specs.Kept.{folded_in, HasFolded, IsFoldTold};
+ghost use Rattle.snap_report.specs.Kept.{HasFolded, IsFoldTold};
 
-use crate::check::sum_of;
 use crate::fault::FoldFault;
 use crate::limits::SNAPSHOT_BYTES;
 use crate::making::line_of;
 use crate::refit::{needs_log, refit};
-use batch_store::{Batch, BookList, Entry, GivenNumbers, Pieces, Setup};
+use batch_store::GivenNumbers;
 use byte_io::{Sink, write_all};
-use cells::Cell;
-use hyper_matrix::Hyper;
+use list_fold::folded;
 use snap_file::SnapshotFile;
-use std::alloc::{AllocError, Global};
-use std::sync::Arc;
-
-// The matrix of these cells, as one piece.
-fn base_of(alloc: Global, setup: &Setup, cells: Vec<Cell>) -> Result<Arc<Pieces>, AllocError>
-    ensures { IfOk result (λ base.
-        (arc_value base).whole ≡ matrix setup.now.rows setup.now.cols (built_of cells.items)) }
-{
-    match Hyper::build_list(alloc, setup.rows(), setup.cols(), cells) {
-        Ok(sum) => Pieces::one(alloc, &sum),
-        Err(_) => Err(AllocError),
-    }
-}
-
-// The entries of folded batches, and behind them those of others.
-fn with_entries(folded: Vec<Entry>, batches: &[Arc<Batch>]) -> Result<Vec<Entry>, AllocError>
-    ensures { IfOk result (λ list. list.items ≡ folded.items ++ entries_of (values batches.now)) }
-{
-    let mut list = folded;
-    list.reserve(batches.len())?;
-    'batches: for batch in batches {
-        list.push(batch.entry())?;
-    }
-    Ok(list)
-}
-
-// The entries of all batches of a list, folded or not. Their cells are let go of.
-fn all_entries(list: BookList) -> Result<Vec<Entry>, AllocError>
-    ensures { IfOk result (λ entries. entries.items ≡ list.folded ++ entries_of list.list) }
-{
-    let BookList {
-        base: _,
-        folded,
-        batches,
-    } = list;
-    with_entries(folded, &batches)
-}
-
-// A list with all its batches folded.
-pub(crate) fn folded(alloc: Global, setup: &Setup, list: BookList) -> Result<BookList, AllocError>
-    requires accepted { AreAccepted setup.now (accepted_in list) }
-    requires based { HasBase setup.now list }
-    ensures state { IfOk result (λ l. accepted_in l ≡ folded_in list) }
-    ensures based { IfOk result (λ l. HasBase setup.now l) }
-{
-    // It bounds the total.
-    let _limit = setup.limit();
-    let cells = sum_of(alloc, setup, &list.base, &list.batches)?;
-    // The batches go before their sum takes memory.
-    let folded = all_entries(list)?;
-    let base = base_of(alloc, setup, cells)?;
-    Ok(BookList {
-        base,
-        folded,
-        batches: Vec::new(alloc),
-    })
-}
+use std::alloc::Global;
 
 // Folds the snapshot in a file, and answers how many batches are folded then, and their total.
 fn fold_file<F: SnapshotFile>(
@@ -126,7 +64,7 @@ fn write_line<W: Sink>(w: &mut W, batches: u64, total: u64) -> Result<(), FoldFa
 /// stays as it was, repeats included; the cells of each batch are gone. Its setup is that of the file, but for the
 /// numbers that are given.
 ///
-/// Takes the memory of `run_check`: the batches are let go of before their sum is built. Where a server may save to the
+/// Takes the memory of what the file has, of its sum, and of a part of the batches (`list_fold::folded`). Where a server may save to the
 /// file meanwhile, give a `LockedFile`, whose lock is held from before the reading to the end of the save.
 ///
 /// # Errors

@@ -11,7 +11,6 @@ ghost use Rattle.snap_report.specs.Logged.{Checked, HasJoined};
 ghost use Rattle.snap_report.specs.Made.{IsLeft, IsMade, LeavesMade};
 
 use crate::fault::CheckFault;
-use crate::fold::folded;
 use crate::kept_log::KeptLog;
 use crate::limits::SNAPSHOT_BYTES;
 use crate::making::{MakeFault, NewSnapshot, make_file, write_made};
@@ -19,6 +18,7 @@ use crate::pair::{both_lists, read_pair};
 use crate::refit::{needs_log, refit};
 use batch_store::{BookList, GivenNumbers, Setup};
 use byte_io::Sink;
+use list_fold::folded;
 use snap_file::{Identity, Origin, Snapshot, SnapshotFile};
 use std::alloc::Global;
 

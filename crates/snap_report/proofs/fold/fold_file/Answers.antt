@@ -1,6 +1,5 @@
 use Rattle.std.proofs.Common.{length, ap, ◌∙◌, arith, Ok, Err, subst, inl, inr}
 use Rattle.hyper_matrix.specs.Counts.{total}
-use Rattle.hyper_matrix.specs.Matrix.{Matrix}
 use Rattle.batch_store.specs.Accepted.{Accepted}
 use Rattle.batch_store.specs.Books.{Listing, accepted_in}
 use Rattle.batch_store.specs.Growth.{RefusesGrowth}
