@@ -51,12 +51,12 @@ fn serve_told<
     ensures log_locked { IfOk result (λ _. IsLocked R.locks rt.now settings.log true) }
     ensures ended { let t = settings in IfOk result (λ s. (v : Setting) × (a : Accepted) × (i : Identity)
         × StartsFrom R.loads R.log_heads R.log_starts R.saves R.begins R.names rt.now t.snapshot t.log t.must_load
-        t.numbers v i a × HasEnded (of_origin R.saves (origin i (is_some t.log))) rt.now
+        t.numbers t.fold_above v i a × HasEnded (of_origin R.saves (origin i (is_some t.log))) rt.now
         L.was_synced L.has_failed L.was_full t.snapshot v
         (is_some t.log) a (stopped s 0)) }
     ensures short { let t = settings in IfErr result (IsShort (λ s. (v : Setting) × (a : Accepted)
         × (i : Identity) × StartsFrom R.loads R.log_heads R.log_starts R.saves R.begins R.names rt.now t.snapshot t.log
-        t.must_load t.numbers v i a × HasEnded (of_origin R.saves (origin i (is_some t.log))) rt.now
+        t.must_load t.numbers t.fold_above v i a × HasEnded (of_origin R.saves (origin i (is_some t.log))) rt.now
         L.was_synced L.has_failed L.was_full t.snapshot v
         (is_some t.log) a s)) }
 {
@@ -77,12 +77,12 @@ fn serve_told<
             ensures log_locked { IfOk result (λ _. IsLocked R.locks rt.entry.now settings.log true) }
             ensures ended { let t = settings in IfOk result (λ s. (v : Setting) × (a : Accepted) × (i : Identity)
                 × StartsFrom R.loads R.log_heads R.log_starts R.saves R.begins R.names rt.entry.now t.snapshot t.log t.must_load
-                t.numbers v i a × HasEnded (of_origin R.saves (origin i (is_some t.log))) rt.entry.now
+                t.numbers t.fold_above v i a × HasEnded (of_origin R.saves (origin i (is_some t.log))) rt.entry.now
                 L.was_synced L.has_failed L.was_full t.snapshot v
                 (is_some t.log) a (stopped s 0)) }
             ensures short { let t = settings in IfErr result (IsShort (λ s. (v : Setting) × (a : Accepted)
                 × (i : Identity) × StartsFrom R.loads R.log_heads R.log_starts R.saves R.begins R.names rt.entry.now t.snapshot t.log
-                t.must_load t.numbers v i a × HasEnded (of_origin R.saves (origin i (is_some t.log))) rt.entry.now
+                t.must_load t.numbers t.fold_above v i a × HasEnded (of_origin R.saves (origin i (is_some t.log))) rt.entry.now
                 L.was_synced L.has_failed L.was_full t.snapshot v
                 (is_some t.log) a s)) }
         {
@@ -121,12 +121,12 @@ pub fn run_told<
     ensures log_locked { IfOk result (λ _. IsLocked R.locks rt.now order.settings.log true) }
     ensures ended { let t = order.settings in IfOk result (λ s. (v : Setting) × (a : Accepted) × (i : Identity)
         × StartsFrom R.loads R.log_heads R.log_starts R.saves R.begins R.names rt.now t.snapshot t.log t.must_load
-        t.numbers v i a × HasEnded (of_origin R.saves (origin i (is_some t.log))) rt.now
+        t.numbers t.fold_above v i a × HasEnded (of_origin R.saves (origin i (is_some t.log))) rt.now
         ⟦<FileLog as Log>⟧.was_synced ⟦<FileLog as Log>⟧.has_failed ⟦<FileLog as Log>⟧.was_full t.snapshot v
         (is_some t.log) a (stopped s 0)) }
     ensures short { let t = order.settings in IfErr result (IsShort (λ s. (v : Setting) × (a : Accepted)
         × (i : Identity) × StartsFrom R.loads R.log_heads R.log_starts R.saves R.begins R.names rt.now t.snapshot t.log
-        t.must_load t.numbers v i a × HasEnded (of_origin R.saves (origin i (is_some t.log))) rt.now
+        t.must_load t.numbers t.fold_above v i a × HasEnded (of_origin R.saves (origin i (is_some t.log))) rt.now
         ⟦<FileLog as Log>⟧.was_synced ⟦<FileLog as Log>⟧.has_failed ⟦<FileLog as Log>⟧.was_full t.snapshot v
         (is_some t.log) a s)) }
 {

@@ -15,11 +15,12 @@ ghost use Rattle.snap_roll.specs.Rolls.{Takes, TellsAdded, TellsFile, TellsRoll,
 ghost use Rattle.snap_roll.specs.Rolls.{begun_empty, begun_roll, first_setup, roll_line, window_of};
 
 use crate::roll_fault::{RollFault, Untaken};
-use crate::rolling::{Rolling, empty_list, folded, take_in};
+use crate::rolling::{Rolling, empty_list, take_in};
 use crate::words::{LINE_CAPACITY, push_number, write_line};
 use arrayvec::ArrayString;
 use batch_store::Setup;
 use byte_io::Sink;
+use list_fold::folded;
 use snap_export::SnapshotFiles;
 use snap_file::{FileFault, Identity, NO_WINDOW, Origin, SaveFault, Snapshot, SnapshotFile};
 use snap_report::{CheckFault, SNAPSHOT_BYTES};

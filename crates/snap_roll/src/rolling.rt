@@ -1,13 +1,11 @@
 //! A coarser file in memory, and the windows that are taken into it.
-ghost use Rattle.std.specs.Prelude.{◌≡◌, ℕ, ◌++◌, [], true, false, Ok, IfOk, IfErr};
+ghost use Rattle.std.specs.Prelude.{◌≡◌, ℕ, [], true, false, Ok, IfOk, IfErr};
 ghost use Rattle.hyper_matrix.specs.Counts.{total};
 ghost use Rattle.hyper_matrix.specs.Matrix.{matrix};
-ghost use Rattle.batch_store.specs.Accepted.{entries_in, summed, unfolded};
-ghost use Rattle.batch_store.specs.Batches.{entries_of, values};
+ghost use Rattle.batch_store.specs.Accepted.{summed, unfolded};
 ghost use Rattle.batch_store.specs.Books.{AreAccepted, accepted_in, listed_in};
 ghost use Rattle.batch_store.specs.Setups.{IsSetting};
 ghost use Rattle.snap_file.specs.Snapshots.{HasBase};
-ghost use Rattle.snap_report.specs.Kept.{folded_in};
 ghost use Rattle.snap_roll.specs.Held.{IsRolling, roll_of};
 ghost use Rattle.snap_roll.specs.Rolls.{HasEntry, HasRoomFor, IsAddedTo, RefusesEntry, Takes, Untakes, UntakesEntry};
 ghost use Rattle.snap_roll.specs.Rolls.{entry_of_sum, window_of, with_sum};
@@ -15,11 +13,10 @@ ghost use Rattle.snap_roll.specs.Rolls.{entry_of_sum, window_of, with_sum};
 use crate::has::find;
 use crate::roll_fault::{Refusal, Untaken};
 use crate::window::{book_in, judge_window};
-use batch_store::{Batch, BookList, Entry, Pieces, Setup, with_batches};
+use batch_store::{BookList, Entry, Pieces, Setup, with_batches};
 use hyper_matrix::Hyper;
 use snap_file::{Identity, Snapshot};
 use std::alloc::{AllocError, Global};
-use std::sync::Arc;
 
 /// A coarser file whose batches are all folded, and the book of the windows that were taken in.
 #[derive(Drop)]
@@ -38,48 +35,6 @@ fn sum_of(alloc: Global, setup: &Setup, list: &BookList) -> Result<Hyper, AllocE
     let base = list.base.sum(alloc)?;
     let sum = with_batches(alloc, base, &list.batches)?;
     Ok(sum)
-}
-
-// The entries of folded batches, and after them those of others.
-fn with_entries(folded: Vec<Entry>, batches: &[Arc<Batch>]) -> Result<Vec<Entry>, AllocError>
-    ensures { IfOk result (λ list. list.items ≡ folded.items ++ entries_of (values batches.now)) }
-{
-    let mut list = folded;
-    list.reserve(batches.len())?;
-    'batches: for batch in batches {
-        list.push(batch.entry())?;
-    }
-    Ok(list)
-}
-
-// The entries of all batches of a list, folded or not. Their cells are let go of.
-fn all_entries(list: BookList) -> Result<Vec<Entry>, AllocError>
-    ensures { IfOk result (λ entries. entries.items ≡ entries_in (accepted_in list)) }
-{
-    let BookList {
-        base: _,
-        folded,
-        batches,
-    } = list;
-    with_entries(folded, &batches)
-}
-
-/// A list with all its batches folded.
-pub fn folded(alloc: Global, setup: &Setup, list: BookList) -> Result<BookList, AllocError>
-    requires accepted { AreAccepted setup.now (accepted_in list) }
-    requires based { HasBase setup.now list }
-    ensures state { IfOk result (λ l. accepted_in l ≡ folded_in list) }
-    ensures accepted { IfOk result (λ l. AreAccepted setup.now (accepted_in l)) }
-    ensures based { IfOk result (λ l. HasBase setup.now l) }
-{
-    let sum = sum_of(alloc, setup, &list)?;
-    let folded = all_entries(list)?;
-    let base = Pieces::one(alloc, &sum)?;
-    Ok(BookList {
-        base,
-        folded,
-        batches: Vec::new(alloc),
-    })
 }
 
 /// A list without batches.

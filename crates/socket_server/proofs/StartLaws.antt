@@ -7,6 +7,7 @@ use Rattle.batch_store.specs.declared.verdict.Entry.{Entry}
 use Rattle.batch_store.specs.Accepted.{Accepted}
 use Rattle.batch_store.specs.Books.{Listing, listing, accepted_in, listed_in}
 use Rattle.batch_store.specs.Setups.{Setting}
+use Rattle.list_fold.specs.Folding.{IsFolded}
 use Rattle.log_start.specs.declared.fault.StartFault.{StartFault}
 use Rattle.log_start.specs.declared.owner.LogOwner.{LogOwner}
 use Rattle.snap_file.specs.Origins.{has_book, origin, own}
@@ -178,17 +179,19 @@ module _ {H Y Z : Type 0} (loads : H → List ℕ → ℕ → Result Saved FileF
           logged,
         )
 
-    pub starts_from : (f p q : Setting) (i : Identity) (b last a : Accepted) → IsPlan g f p q →
+    pub starts_from : (above : ℕ) (f p q : Setting) (i : Identity) (b last folded a : Accepted) → IsPlan g f p q →
         StartsUnder loads heads starts saves begins names h path log must_load g f p i b →
-        IsGrown saves begins names h path log p q (origin i (is_some log)) b last → a ≡ last →
-        StartsFrom loads heads starts saves begins names h path log must_load g q i a
-    starts_from f p q i b last a plan under grown is = (
+        IsGrown saves begins names h path log p q (origin i (is_some log)) b last → IsFolded above last folded →
+        a ≡ folded → StartsFrom loads heads starts saves begins names h path log must_load g above q i a
+    starts_from above f p q i b last folded a plan under grown of is = (
       f,
       p,
       b,
+      last,
       plan,
       under,
-      subst (λ (x : Accepted). IsGrown saves begins names h path log p q (origin i (is_some log)) b x) (sym is) grown,
+      grown,
+      subst (λ (x : Accepted). IsFolded above last x) (sym is) of,
     )
 
 module _ {H Y Z : Type 0} (loads : H → List ℕ → ℕ → Result Saved FileFault → Type 0)

@@ -48,9 +48,10 @@
 --                     else just what the host has answered to a start of the log over what was loaded, which goes on
 --                     from that, and is made of it and of the bytes that were read of the log's file. The book is i:
 --                     that of the snapshot, else that of the log, else one that was drawn. And each file says so
---     StartsFrom loads heads starts saves begins names h path log must_load g q i a
+--     StartsFrom loads heads starts saves begins names h path log must_load g above q i a
 --                     an engine of setup q, which is the given numbers g over those of the files, starts with this as
---                     accepted: with what is so under the files' rows and columns, in no fewer of them
+--                     accepted: with what is so under the files' rows and columns, in no fewer of them, with some of the
+--                     first batches folded; with none where `above` is 0
 --     IsLocked locks h path must_save
 --                     where there is a path, the host has answered that its lock is held, or, where a save needn't be
 --                     seen to be possible, that it can't be had
@@ -85,6 +86,7 @@ use Rattle.log_start.specs.declared.fault.StartFault.{StartFault}
 use Rattle.log_start.specs.declared.fault.StartFault.TheVariants as start
 use Rattle.socket_server.specs.declared.log_host.LogOrigin.{LogOrigin}
 use Rattle.log_start.specs.declared.owner.LogOwner.{LogOwner}
+use Rattle.list_fold.specs.Folding.{IsFolded}
 use Rattle.log_disk.specs.declared.disk.LogDisk.{Ghosts as Device}
 use Rattle.log_start.specs.Starts.{AreOfFile, IsJoined as AreJoined}
 use Rattle.log_desk.specs.Standings.{IsNamed}
@@ -278,12 +280,12 @@ abbrev pub StartsFrom : {H Y Z : Type 0} → (H → List ℕ → ℕ → Result 
     (H → List ℕ → Result (Option Setting) StartFault → Type 0) →
     (H → List ℕ → Setting → LogOwner → Listing → StartAnswer → Type 0) →
     (H → List ℕ → Origin → Setting → Accepted → Type 0) → (H → List ℕ → Setting → Identity → List Entry → Type 0) →
-    (H → List ℕ → List Entry → Type 0) → H → Option (String Y) → Option (String Z) → Bool → GivenNumbers → Setting →
-    Identity → Accepted → Type 0
-StartsFrom loads heads starts saves begins names h path log must_load g q i a =
-    (f : Setting) × (p : Setting) × (b : Accepted) × IsPlan g f p q
+    (H → List ℕ → List Entry → Type 0) → H → Option (String Y) → Option (String Z) → Bool → GivenNumbers → ℕ →
+    Setting → Identity → Accepted → Type 0
+StartsFrom loads heads starts saves begins names h path log must_load g above q i a =
+    (f : Setting) × (p : Setting) × (b c : Accepted) × IsPlan g f p q
     × StartsUnder loads heads starts saves begins names h path log must_load g f p i b
-    × IsGrown saves begins names h path log p q (origin i (is_some log)) b a
+    × IsGrown saves begins names h path log p q (origin i (is_some log)) b c × IsFolded above c a
 
 -- whether a lock is held from then on, or why not
 abbrev pub lock_answer : {L : Type 0} → Result (Option L) FileFault → Result Bool FileFault

@@ -364,12 +364,12 @@ fn serve_settings<
     ensures log_locked { IfOk result (λ _. IsLocked R.locks rt.now settings.log true) }
     ensures ended { IfOk result (λ s. (v : Setting) × (a : Accepted) × (i : Identity)
         × StartsFrom R.loads R.log_heads R.log_starts R.saves R.begins R.names rt.now settings.snapshot settings.log
-        settings.must_load settings.numbers v i a × HasEnded (of_origin R.saves (origin i (is_some settings.log)))
-        rt.now L.was_synced L.has_failed L.was_full settings.snapshot v (is_some settings.log) a (stopped s 0)) }
+        settings.must_load settings.numbers settings.fold_above v i a
+        × HasEnded (of_origin R.saves (origin i (is_some settings.log))) rt.now L.was_synced L.has_failed L.was_full settings.snapshot v (is_some settings.log) a (stopped s 0)) }
     ensures short { IfErr result (IsShort (λ s. (v : Setting) × (a : Accepted) × (i : Identity)
         × StartsFrom R.loads R.log_heads R.log_starts R.saves R.begins R.names rt.now settings.snapshot settings.log
-        settings.must_load settings.numbers v i a × HasEnded (of_origin R.saves (origin i (is_some settings.log)))
-        rt.now L.was_synced L.has_failed L.was_full settings.snapshot v (is_some settings.log) a s)) }
+        settings.must_load settings.numbers settings.fold_above v i a
+        × HasEnded (of_origin R.saves (origin i (is_some settings.log))) rt.now L.was_synced L.has_failed L.was_full settings.snapshot v (is_some settings.log) a s)) }
     ensures met { IfErr result (MayEnd (IsMet settings.must_load)) }
     ensures told { IfErr result (λ f. IsLoadTold R.loads R.locks rt.now settings.snapshot settings.numbers f) }
     ensures log_told { IfErr result (λ f. IsLogTold R.loads R.locks R.log_heads R.log_starts rt.now settings.snapshot
@@ -464,12 +464,12 @@ pub fn run_server<
     ensures log_locked { IfOk result (λ _. IsLocked R.locks rt.now settings.log true) }
     ensures ended { IfOk result (λ s. (v : Setting) × (a : Accepted) × (i : Identity)
         × StartsFrom R.loads R.log_heads R.log_starts R.saves R.begins R.names rt.now settings.snapshot settings.log
-        settings.must_load settings.numbers v i a × HasEnded (of_origin R.saves (origin i (is_some settings.log)))
-        rt.now L.was_synced L.has_failed L.was_full settings.snapshot v (is_some settings.log) a (stopped s 0)) }
+        settings.must_load settings.numbers settings.fold_above v i a
+        × HasEnded (of_origin R.saves (origin i (is_some settings.log))) rt.now L.was_synced L.has_failed L.was_full settings.snapshot v (is_some settings.log) a (stopped s 0)) }
     ensures short { IfErr result (IsShort (λ s. (v : Setting) × (a : Accepted) × (i : Identity)
         × StartsFrom R.loads R.log_heads R.log_starts R.saves R.begins R.names rt.now settings.snapshot settings.log
-        settings.must_load settings.numbers v i a × HasEnded (of_origin R.saves (origin i (is_some settings.log)))
-        rt.now L.was_synced L.has_failed L.was_full settings.snapshot v (is_some settings.log) a s)) }
+        settings.must_load settings.numbers settings.fold_above v i a
+        × HasEnded (of_origin R.saves (origin i (is_some settings.log))) rt.now L.was_synced L.has_failed L.was_full settings.snapshot v (is_some settings.log) a s)) }
 {
     settings.judge()?;
     serve_settings::<L, R, W>(rt, alloc, settings, out)

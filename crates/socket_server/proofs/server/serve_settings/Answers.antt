@@ -55,7 +55,7 @@ returns-clause-short g c =
     (HasEnded (of_origin saves own) h synced failed full c.args.settings.snapshot v (is_some c.args.settings.log) a)
     (λ s. (w : Setting) × (x : Accepted) × (j : Identity) × StartsFrom g.R.Host.loads g.R.LogHost.log_heads
     g.R.LogHost.log_starts g.R.Disk.saves g.R.LogPlace.begins g.R.LogPlace.names h c.args.settings.snapshot
-    c.args.settings.log c.args.settings.must_load c.args.settings.numbers w j x
+    c.args.settings.log c.args.settings.must_load c.args.settings.numbers c.args.settings.fold_above w j x
     × HasEnded (of_origin saves (origin j (is_some c.args.settings.log))) h synced failed full c.args.settings.snapshot w
     (is_some c.args.settings.log) x s)
     (λ s e. (v, a, i, told.start, e))
@@ -77,7 +77,7 @@ returns-in_err-start-clause-short g c =
     rw (p.1, p.2) (met_short c.args.settings.must_load
     (λ s. (w : Setting) × (x : Accepted) × (j : Identity) × StartsFrom g.R.Host.loads g.R.LogHost.log_heads
     g.R.LogHost.log_starts g.R.Disk.saves g.R.LogPlace.begins g.R.LogPlace.names h c.args.settings.snapshot
-    c.args.settings.log c.args.settings.must_load c.args.settings.numbers w j x
+    c.args.settings.log c.args.settings.must_load c.args.settings.numbers c.args.settings.fold_above w j x
     × HasEnded (of_origin saves (origin j (is_some c.args.settings.log))) h g.L.Log.was_synced g.L.Log.has_failed
     g.L.Log.was_full c.args.settings.snapshot w (is_some c.args.settings.log) x s)
     _ c.in_err-start.ensures.met)

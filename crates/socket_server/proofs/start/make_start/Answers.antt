@@ -39,12 +39,13 @@ returns-clause-start g c =
     let h = c.args.rt.now in
     let last = accepted_in whole.list in
     let b = accepted_in first.joined.list in
+    let folded = accepted_in c.in_ok-list.list in
     let started = starts_from g.R.Host.loads g.R.LogHost.log_heads g.R.LogHost.log_starts saves g.R.LogPlace.begins
-    g.R.LogPlace.names h s.snapshot s.log s.must_load s.numbers plan.files plan.first plan.last first.identity b
-    last c.in_ok-plain.plain.book.state c.in_ok-plan.ensures.plan c.in_ok-joined.ensures.under
+    g.R.LogPlace.names h s.snapshot s.log s.must_load s.numbers s.fold_above plan.files plan.first plan.last
+    first.identity b last folded c.in_ok-plain.plain.book.state c.in_ok-plan.ensures.plan c.in_ok-joined.ensures.under
     (subst (λ (m : Bool). IsGrown saves g.R.LogPlace.begins g.R.LogPlace.names h s.snapshot s.log plan.first
     plan.last (origin first.identity m) b last) c.is_some.ensures c.in_ok-whole.ensures.grown)
-    c.in_ok-plain.ensures.state in
+    c.in_ok-list.ensures.folded c.in_ok-plain.ensures.state in
     subst (λ (v : Setting). StartsFrom g.R.Host.loads g.R.LogHost.log_heads g.R.LogHost.log_starts saves
-    g.R.LogPlace.begins g.R.LogPlace.names h s.snapshot s.log s.must_load s.numbers v first.identity
+    g.R.LogPlace.begins g.R.LogPlace.names h s.snapshot s.log s.must_load s.numbers s.fold_above v first.identity
     c.in_ok-plain.plain.book.state) (sym c.in_ok-plain.ensures.setup) started
