@@ -181,7 +181,8 @@ fn a_path_that_is_taken_stays(rt: HostRuntime) -> Result<(), Fail> {
         unix: Some(path),
         ..PLAIN
     };
-    let address = path.to_string(rt.alloc()).expect(&rt, "memory");
+    let told = "taken_test.socket (Address already in use)";
+    let address = told.to_string(rt.alloc()).expect(&rt, "memory");
     let wanted = Some(ServerFault::Listen(address));
     let is_told = is_fault(&rt, rt.alloc(), &plan, None, &wanted);
     drop(wanted);
