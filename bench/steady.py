@@ -3,9 +3,9 @@
 
     python3 bench/steady.py PATH-TO-HHM [--seconds S] [--rate CELLS] [--places N] [--folder F]
 
-Two connections put batches of 1,000 cells, up to 32 on the way on each, whose places come again in turn. All options of the
-server are the defaults. Each minute it prints the megabytes of the log, of the snapshot and of memory, and at the end
-the most of each. Then the server is killed, and a start from its files is timed up to the first status, whose total must
+Two connections put batches of 1,000 cells, up to 32 on the way on each, whose places come again in turn. All options
+of the server are the defaults. Each minute it prints the megabytes of the log, of the snapshot and of memory, and at
+the end the most of each. Then the server is killed, and a start from its files is timed up to the first status, whose total must
 be that of what was accepted. The files go to a folder of their own below F, by default the system's one for temporary
 files, and are removed at the end. Linux, and nothing but Python's own library.
 """
